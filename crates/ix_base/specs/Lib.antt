@@ -1,0 +1,3 @@
+pub mod Role
+pub mod Host
+pub mod Faults

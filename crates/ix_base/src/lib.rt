@@ -1,0 +1,20 @@
+//! The ground of every crate: plain types of the dataplane, lists that contracts see as lists, the answers for want of memory,
+//! and the host, by which a program reads its inputs and writes its outputs.
+#![tactic(auto)]
+
+mod faults;
+mod frame;
+mod host;
+mod id;
+mod list;
+mod memory;
+mod role;
+mod segment;
+
+pub use frame::{Disposition, Local};
+pub use host::Host;
+pub use id::{BufId, CoreId, Flow, GroupId, Handle, Owned, WireNo};
+pub use list::{Bytes, List};
+pub use memory::{Back, NoMemory};
+pub use role::{Failed, Kind, Role};
+pub use segment::{Ret, Seg, SegHead};
