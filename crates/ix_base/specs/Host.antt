@@ -1,5 +1,5 @@
 -- What a host means, and what its calls do to that.
-use Rattle.std.specs.Prelude.{◌≡◌, ◌≤◌, ◌-◌, ◌+◌, ◌^◌, ℕ, min, List, [], take, Bool, true, IsTrue, Result, Ok, Err, Option}
+use Rattle.std.specs.Prelude.{◌≡◌, ◌≤◌, ◌-◌, ◌+◌, ◌^◌, ℕ, min, List, [], take, Bool, IsTrue, Result, Ok, Err, Option}
 use Rattle.std.specs.Io.KnownBytes.{prepend_known, append_known}
 use Rattle.ix_base.specs.declared.role.Role.{Role}
 use Rattle.ix_base.specs.declared.role.Kind.{Kind}
