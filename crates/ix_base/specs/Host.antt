@@ -1,5 +1,5 @@
 -- What a host means, and what its calls do to that.
-use Rattle.std.specs.Prelude.{◌≡◌, ◌≤◌, ◌-◌, ◌+◌, ◌^◌, ℕ, min, List, [], take, Bool, true, IsTrue, Result, Ok, Err, Option}
+use Rattle.std.specs.Prelude.{◌≡◌, ◌≤◌, ◌-◌, ◌+◌, ◌^◌, ℕ, min, List, [], take, Bool, IsTrue, Result, Ok, Err, Option}
 use Rattle.std.specs.Io.KnownBytes.{prepend_known, append_known}
 use Rattle.ix_base.specs.declared.role.Role.{Role}
 use Rattle.ix_base.specs.declared.role.Kind.{Kind}
@@ -28,6 +28,7 @@ pub record Counts (kind : Kind) (old new : State) : Type 0 where
 pub record Attaches (role : Role) (old new : State) : Type 0 where
   pub left : new.left ≡ old.left
   pub written : new.written ≡ old.written
+  pub others_attached : SameBut role old.is_attached new.is_attached
   pub kept : (r : Role) → IsTrue (old.is_attached r) → IsTrue (new.is_attached r)
   pub counts : Counts (kind_of role) old new
 
@@ -36,6 +37,7 @@ pub record Reads (role : Role) (bytes : List ℕ) (old new : State) : Type 0 whe
   pub taken : old.left role ≡ prepend_known bytes (new.left role)
   pub others : SameBut role old.left new.left
   pub written : new.written ≡ old.written
+  pub others_attached : SameBut role old.is_attached new.is_attached
   pub kept : (r : Role) → IsTrue (old.is_attached r) → IsTrue (new.is_attached r)
   pub counts : Counts Reading old new
 
@@ -44,6 +46,7 @@ pub record Writes (role : Role) (bytes : List ℕ) (old new : State) : Type 0 wh
   pub appended : new.written role ≡ append_known (old.written role) bytes
   pub others : SameBut role old.written new.written
   pub left : new.left ≡ old.left
+  pub others_attached : SameBut role old.is_attached new.is_attached
   pub kept : (r : Role) → IsTrue (old.is_attached r) → IsTrue (new.is_attached r)
   pub counts : Counts Writing old new
 

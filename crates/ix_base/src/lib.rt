@@ -3,18 +3,22 @@
 #![tactic(auto)]
 
 mod faults;
+mod file;
 mod frame;
 mod host;
 mod id;
 mod list;
+mod mem;
 mod memory;
 mod role;
 mod segment;
 
+pub use file::FileHost;
 pub use frame::{Disposition, Local};
 pub use host::Host;
 pub use id::{BufId, CoreId, Flow, GroupId, Handle, Owned, WireNo};
 pub use list::{Bytes, List};
+pub use mem::MemHost;
 pub use memory::{Back, NoMemory};
 pub use role::{Failed, Kind, Role};
 pub use segment::{Ret, Seg, SegHead};

@@ -1,0 +1,22 @@
+-- Laws on fronts of lists.
+use Rattle.std.proofs.Common.{ℕ, List, [], ◌++◌, take, drop, refl, sym, ◌∙◌, ap, take-append-drop}
+use Rattle.std.proofs.lemmas.List.{append_assoc, append-nil}
+use Rattle.ix_base.specs.Prefix.{IsPrefix}
+
+pub prefix_nil : {A : Type 0} (xs : List A) → IsPrefix [] xs
+prefix_nil xs = record { rest = xs; joined = refl }
+
+pub prefix_refl : {A : Type 0} (xs : List A) → IsPrefix xs xs
+prefix_refl xs = record { rest = []; joined = sym (append-nil xs) }
+
+pub prefix_append : {A : Type 0} (xs ys : List A) → IsPrefix xs (xs ++ ys)
+prefix_append xs ys = record { rest = ys; joined = refl }
+
+pub prefix_take : {A : Type 0} (n : ℕ) (xs : List A) → IsPrefix (take n xs) xs
+prefix_take n xs = record { rest = drop n xs; joined = sym (take-append-drop n xs) }
+
+pub prefix_trans : {A : Type 0} (xs ys zs : List A) → IsPrefix xs ys → IsPrefix ys zs → IsPrefix xs zs
+prefix_trans xs ys zs p q = record {
+  rest = p.rest ++ q.rest;
+  joined = q.joined ∙ ap (λ (l : List _). l ++ q.rest) p.joined ∙ append_assoc xs p.rest q.rest;
+}
