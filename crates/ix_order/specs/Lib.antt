@@ -1,0 +1,5 @@
+pub mod Wire
+pub mod Pieces
+pub mod Stages
+pub mod Steppers
+pub mod Rows
