@@ -1,0 +1,11 @@
+pub mod BodyLemmas
+pub mod FlushLemmas
+pub mod TimerLemmas
+pub mod NumberLemmas
+pub mod KeptArrival
+pub mod KeptOpening
+pub mod KeptAck
+pub mod KeptBody
+pub mod KeptFlush
+pub mod KeptCalls
+pub mod KeptStep

@@ -1,0 +1,22 @@
+use Rattle.std.proofs.Common.{◌≡◌, rules, subst, sym}
+use Rattle.ix_tcpdef.specs.Step.{step}
+use Rattle.ix_tcpdef.specs.Sound.{IsKept}
+use Rattle.ix_tcpdef.proofs.KeptStep.{kept-step}
+use Rattle.ix_tcpdef.specs.declared.types.Connection.{Connection}
+use Rattle.ix_tcpdef.proofs.world.step_plain.Goals as goal
+
+kept : (c : goal.In_ok-make_step) → IsKept c.args.cfg.now c.make_step.new.job.connection
+unfolding step
+kept c =
+    let e : c.make_step.new.job.connection ≡ (step c.args.cfg.now c.args.world.now c.args.input.now c.args.now).connection = search rules in
+    let k : IsKept c.args.cfg.now c.args.world.now = record { sound = search rules; standing = c.requires.standing } in
+    subst (λ (w : Connection). IsKept c.args.cfg.now w) (sym e) (kept-step c.args.cfg.now c.args.world.now c.args.input.now c.args.now c.requires.cfg c.requires.written c.in_ok-make_step.ensures.window k)
+
+pub invariant_of-result : goal.invariant_of-result
+invariant_of-result c = (kept c).sound
+
+pub returns-clause-sound : goal.returns-clause-sound
+returns-clause-sound c = (kept c).sound
+
+pub returns-clause-standing : goal.returns-clause-standing
+returns-clause-standing c = (kept c).standing

@@ -1,0 +1,13 @@
+pub mod Numbers
+pub mod Connection
+pub mod Frames
+pub mod Opening
+pub mod Arrival
+pub mod Acknowledgement
+pub mod Body
+pub mod Flush
+pub mod Calls
+pub mod Step
+pub mod Needs
+pub mod Sound
+pub mod World

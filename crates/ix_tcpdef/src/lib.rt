@@ -1,0 +1,23 @@
+//! One TCP connection, plainly: the definition of its step, and a slow program that computes it.
+#![tactic(auto)]
+
+mod acknowledgement;
+mod arrival;
+mod body;
+mod calls;
+mod connection;
+mod copy;
+mod flush;
+mod frames;
+mod numbers;
+mod opening;
+mod step;
+mod timer;
+mod types;
+mod world;
+
+pub use types::{
+    Ask, Cfg, Connection, HeldHead, HeldSegment, Input, Job, Left, Octets, Output, Outputs, Piece,
+    State, Tcb, Told,
+};
+pub use world::{World1, step_plain};
