@@ -1,0 +1,9 @@
+pub mod Address
+pub mod Key
+pub mod Neighbour
+pub mod Push
+pub mod Sections
+pub mod Settings
+pub mod Tables
+pub mod Unknown
+pub mod Value
