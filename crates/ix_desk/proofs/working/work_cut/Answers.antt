@@ -1,0 +1,19 @@
+use Rattle.std.proofs.Common.{◌∙◌, ◌<◌, length, arith, ap, sym}
+use Rattle.std.proofs.lemmas.Grind.{common_steps}
+use Rattle.ix_desk.specs.Steps.{cut_leaves, CutWorked}
+use Rattle.ix_desk.proofs.Each.{each-next, leave-next, rest-next}
+use Rattle.ix_desk.proofs.working.work_cut.Goals as goal
+
+pub loop-i-preserved : goal.loop-i-preserved
+loop-i-preserved g c =
+    let inv = c.loop-i.invariant in
+    let len = inv.len in
+    let lt : c.loop-i.i < length c.loop-i.cut.items = omega (arith, len) in
+    let leaves = cut_leaves g.U.Unit.counted in
+    let worked = CutWorked g.U.Unit.counted g.U.Unit.name g.U.Unit.stepped g.U.Unit.advanced c.args.env.now c.args.core.0 in
+    record {
+      len = grind (arith, common_steps, len);
+      each = each-next leaves worked c.args.cut.now.items c.loop-i.cut.items c.loop-i.i c.index_mut-here.result.now c.args.budget c.work.new.self len lt c.index_mut-here.ensures.value inv.rest inv.each (rw (← inv.left) c.in_ok-left.ensures.worked);
+      left = c.in_ok-left.ensures.left ∙ ap (λ b. leaves b c.index_mut-here.result.now) inv.left ∙ sym (leave-next leaves worked c.args.cut.now.items c.loop-i.cut.items c.loop-i.i c.index_mut-here.result.now c.args.budget len lt c.index_mut-here.ensures.value inv.rest);
+      rest = rest-next leaves worked c.args.cut.now.items c.loop-i.cut.items c.loop-i.i c.index_mut-here.result.now c.work.new.self len lt inv.rest;
+    }
