@@ -242,7 +242,7 @@ octets-lie cfg seg w framed fits some = by_place (past_of (seq_of w seg.head)) (
           place = omega (arith, cut, rest, len, place);
         }
 
-takes_body-known : (s : State) → takes_body s ≡ true → is_unknown s ≡ false
+pub takes_body-known : (s : State) → takes_body s ≡ true → is_unknown s ≡ false
 takes_body-known st.Listen e = cc
 takes_body-known st.SynSent e = cc
 takes_body-known st.SynReceived e = cc

@@ -43,7 +43,7 @@ sends-not_syn_sent : (s : State) → sends s ≡ true → is_syn_sent s ≡ true
 sends-not_syn_sent st.SynSent e f = e
 sends-not_syn_sent _ e f = f
 
-sends-carries : (s : State) → sends s ≡ true → carries s ≡ true
+pub sends-carries : (s : State) → sends s ≡ true → carries s ≡ true
 sends-carries st.Listen e = e
 sends-carries st.SynSent e = e
 sends-carries st.SynReceived e = e

@@ -9,3 +9,5 @@ pub mod KeptBody
 pub mod KeptFlush
 pub mod KeptCalls
 pub mod KeptStep
+pub mod FairArrival
+pub mod FairStep

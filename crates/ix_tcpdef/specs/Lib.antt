@@ -11,3 +11,4 @@ pub mod Step
 pub mod Needs
 pub mod Sound
 pub mod World
+pub mod Laws

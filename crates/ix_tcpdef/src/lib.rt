@@ -9,6 +9,7 @@ mod connection;
 mod copy;
 mod flush;
 mod frames;
+mod laws;
 mod numbers;
 mod opening;
 mod step;
@@ -16,6 +17,7 @@ mod timer;
 mod types;
 mod world;
 
+pub use laws::runs_are_sound;
 pub use types::{
     Ask, Cfg, Connection, HeldHead, HeldSegment, Input, Job, Left, Octets, Output, Outputs, Piece,
     State, Tcb, Told,

@@ -75,6 +75,8 @@ impl World1 {
     /// State, positions and windows of congestion control.
     pub fn left(&self) -> Left
         ensures value { result ≡ left_of self.now }
+        ensures order { result.una ≤ result.nxt }
+        ensures within { result.nxt ≤ length self.now.sent + 2 }
         ensures sound { IsSound self.now }
     {
         let w = &self.connection;
@@ -116,6 +118,7 @@ impl World1 {
 
 ghost use Rattle.ix_tcpdef.specs.Sound.{IsSound, IsStanding, IsInRange, IsWritten};
 ghost use Rattle.ix_tcpdef.specs.Step.{step};
+ghost use Rattle.ix_tcpdef.specs.Laws.{SendsFairly};
 
 /// One step of a connection: the connection after an input at this tick, and what it gave, in order.
 ///
@@ -136,6 +139,7 @@ pub fn step_plain(
     ensures outputs { IfOk result (λ r. r.1 ≡ (step cfg.now world.now input.now now).outputs) }
     ensures sound { IfOk result (λ r. IsSound r.0) }
     ensures standing { IfOk result (λ r. IsStanding cfg.now r.0) }
+    ensures frames { IfOk result (λ r. SendsFairly world.now r.0 r.1) }
 {
     let mut job = Job {
         connection: copy(alloc, &world.connection)?,

@@ -2,7 +2,10 @@ use Rattle.std.proofs.Common.{◌≡◌, rules, subst, sym}
 use Rattle.ix_tcpdef.specs.Step.{step}
 use Rattle.ix_tcpdef.specs.Sound.{IsKept}
 use Rattle.ix_tcpdef.proofs.KeptStep.{kept-step}
+use Rattle.ix_tcpdef.specs.Laws.{SendsFairly}
+use Rattle.ix_tcpdef.proofs.FairStep.{fair-step}
 use Rattle.ix_tcpdef.specs.declared.types.Connection.{Connection}
+use Rattle.ix_tcpdef.specs.declared.types.Job.{Job}
 use Rattle.ix_tcpdef.proofs.world.step_plain.Goals as goal
 
 kept : (c : goal.In_ok-make_step) → IsKept c.args.cfg.now c.make_step.new.job.connection
@@ -12,6 +15,13 @@ kept c =
     let k : IsKept c.args.cfg.now c.args.world.now = record { sound = search rules; standing = c.requires.standing } in
     subst (λ (w : Connection). IsKept c.args.cfg.now w) (sym e) (kept-step c.args.cfg.now c.args.world.now c.args.input.now c.args.now c.requires.cfg c.requires.written c.in_ok-make_step.ensures.window k)
 
+fair : (c : goal.In_ok-make_step) → SendsFairly c.args.world.now c.make_step.new.job.connection c.make_step.new.job.outputs
+unfolding step
+fair c =
+    let e : c.make_step.new.job ≡ step c.args.cfg.now c.args.world.now c.args.input.now c.args.now = search rules in
+    let k : IsKept c.args.cfg.now c.args.world.now = record { sound = search rules; standing = c.requires.standing } in
+    subst (λ (j : Job). SendsFairly c.args.world.now j.connection j.outputs) (sym e) (fair-step c.args.cfg.now c.args.world.now c.args.input.now c.args.now k)
+
 pub invariant_of-result : goal.invariant_of-result
 invariant_of-result c = (kept c).sound
 
@@ -20,3 +30,6 @@ returns-clause-sound c = (kept c).sound
 
 pub returns-clause-standing : goal.returns-clause-standing
 returns-clause-standing c = (kept c).standing
+
+pub returns-clause-frames : goal.returns-clause-frames
+returns-clause-frames c = fair c

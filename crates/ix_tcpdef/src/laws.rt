@@ -1,0 +1,10 @@
+// Laws over runs of a connection.
+ghost use Rattle.ix_tcpdef.specs.Laws.{RunsKeep, RunsSendFairly};
+
+/// Nothing happens here: the contract says what is true of every run of a connection under a configuration in range, from any connection
+/// on that keeps what connections keep. Every connection of the run keeps it too, and each frame of the run acknowledges what is expected
+/// then, carries the own stream at its position, and was sent before or ends in both windows.
+pub fn runs_are_sound()
+    ensures kept { RunsKeep }
+    ensures frames { RunsSendFairly }
+{}
