@@ -1,0 +1,5 @@
+pub mod Offset
+pub mod Options
+pub mod Segment
+pub mod Frame
+pub mod Written
