@@ -1,19 +1,19 @@
 -- What the arrival of a segment sends.
-use Rattle.std.proofs.Common.{◌≡◌, ℕ, ◌+◌, ◌-◌, ◌^◌, ◌<◌, ◌≤◌, Bool, true, false, if◌then◌else◌, length, take, drop, List, [], ◌∷◌, ◌++◌, map, arith, refl, sym, ap, subst, ◌∙◌, inl, inr}
-use Rattle.std.specs.Prelude.{nat_lt, nat_le, ◌&&◌, ◌||◌, ◌==◌, not, Some, None, Option, min, ◌⊎◌}
+use Rattle.std.proofs.Common.{◌≡◌, ℕ, ◌+◌, ◌-◌, Bool, true, false, if◌then◌else◌, length, List, [], ◌∷◌, ◌++◌, refl, inl, inr}
+use Rattle.std.specs.Prelude.{nat_lt, nat_le, ◌&&◌, ◌||◌, ◌==◌, not, Some, ◌⊎◌}
 use Rattle.std.specs.List.{All, list_all}
 use Rattle.std.proofs.lemmas.Bool.{cond_both}
 use Rattle.std.proofs.lemmas.List.Elements.{All-append, All-cons, All-nil, All-weaker}
 use Rattle.ix_base.specs.declared.segment.SegHead.{SegHead}
 use Rattle.ix_base.specs.declared.segment.Seg.{Seg}
 use Rattle.ix_base.specs.declared.id.WireNo.{WireNo}
-use Rattle.ix_tcpdef.specs.Numbers.{number, ahead, is_past, is_at_or_past, has_flag, later}
-use Rattle.ix_tcpdef.specs.Connection.{snd_una, snd_nxt, rcv_nxt, rcv_wnd, seq_of, acked_data, room, is_listen, is_syn_received, is_time_wait, gives, tells, on, ended}
+use Rattle.ix_tcpdef.specs.Numbers.{number, is_past, has_flag, later}
+use Rattle.ix_tcpdef.specs.Connection.{snd_una, snd_nxt, rcv_nxt, rcv_wnd, seq_of, acked_data, room, is_syn_received, is_time_wait, gives, tells, on, ended}
 use Rattle.ix_tcpdef.specs.Frames.{ack_frame, reset_frame, syn_frame, syn_ack_frame}
 use Rattle.ix_tcpdef.specs.Arrival.{Next, Goes, Stops, ◌>>=◌, job_of, span, is_acceptable, acceptability, reset, synchronize, unacknowledged}
-use Rattle.ix_tcpdef.specs.Opening.{opens, passive, opening, active, connecting, connected, syn_sent}
+use Rattle.ix_tcpdef.specs.Opening.{opens, passive, opening, active, connecting, syn_sent}
 use Rattle.ix_tcpdef.specs.Acknowledgement.{established, establishing, too_far, acked, told_sent, fin_acked_in, fin_acked, synchronized, acknowledgement}
-use Rattle.ix_tcpdef.specs.Body.{octets, delivered, rest_of, holding, filled, is_apart, held_among, waiting, received, takes_body, ends_next, body, past_fin, fin_taken_in, fin_taken, finished, text_and_fin}
+use Rattle.ix_tcpdef.specs.Body.{octets, delivered, rest_of, holding, filled, is_apart, waiting, received, takes_body, body, past_fin, fin_taken_in, fin_taken, finished, text_and_fin}
 use Rattle.ix_tcpdef.specs.Step.{checked, arrived_in, arrived}
 use Rattle.ix_tcpdef.specs.Laws.{Acknowledges, Carries, SendsFairly}
 use Rattle.ix_tcpdef.specs.declared.types.Cfg.{Cfg}

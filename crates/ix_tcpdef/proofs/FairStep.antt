@@ -1,23 +1,21 @@
 -- What a connection sends on its own, and over whole steps and runs.
-use Rattle.std.proofs.Common.{◌≡◌, ℕ, zero, suc, ◌+◌, ◌-◌, ◌*◌, ◌^◌, ◌<◌, ◌≤◌, Bool, true, false, if◌then◌else◌, length, take, drop, List, [], ◌∷◌, ◌++◌, map, arith, refl, sym, ap, subst, ◌∙◌, inl, inr, length-take, length-drop, length-append, append_assoc}
-use Rattle.std.specs.Prelude.{nat_lt, nat_le, ◌&&◌, ◌||◌, ◌==◌, not, Some, None, Option, min, ◌⊎◌, is_none}
+use Rattle.std.proofs.Common.{◌≡◌, ℕ, zero, suc, ◌+◌, ◌-◌, ◌<◌, ◌≤◌, true, false, length, take, drop, List, [], ◌∷◌, ◌++◌, map, arith, refl, sym, ap, subst, ◌∙◌, inl, inr, length-take, length-drop, append_assoc}
+use Rattle.std.specs.Prelude.{nat_lt, nat_le, ◌&&◌, ◌||◌, ◌==◌, not, Some, min, is_none}
 use Rattle.std.specs.List.{All}
 use Rattle.std.proofs.lemmas.Bool.{cond_both}
-use Rattle.std.proofs.lemmas.Grind.{common_steps}
 use Rattle.std.proofs.lemmas.List.{take-append-drop, drop-drop}
 use Rattle.std.proofs.Math.Seq.{drop-append_seam}
 use Rattle.std.proofs.lemmas.List.Elements.{All-append, All-cons, All-nil, All-weaker}
-use Rattle.ix_base.specs.declared.segment.Ret.{Ret}
 use Rattle.ix_base.specs.declared.segment.Ret.TheVariants as rets
-use Rattle.ix_tcpdef.specs.Numbers.{number, has_flag, later}
-use Rattle.ix_tcpdef.specs.Connection.{rcv_nxt, is_listen, is_time_wait, is_syn_sent, on, gives, tells, ended}
-use Rattle.ix_tcpdef.specs.Frames.{plain_frame, ack_frame, syn_frame, syn_ack_frame, data_frame, fin_frame}
+use Rattle.ix_tcpdef.specs.Numbers.{number, later}
+use Rattle.ix_tcpdef.specs.Connection.{rcv_nxt, is_listen, is_time_wait, is_syn_sent, on, ended}
+use Rattle.ix_tcpdef.specs.Frames.{fin_frame}
 use Rattle.ix_tcpdef.specs.Flush.{unacked, unsent, first_of, first_unacked_in, first_unacked, resends, resent, sends, usable, sendable, data_frames, data_sent, fin_sent, ack_sent, waits_for_window, armed, flushed, is_due, backed_off, timed_out, collapsed_in, collapsed, retransmitted, probed, expired}
-use Rattle.ix_tcpdef.specs.Calls.{is_live, returns, as_told, recv_of, kept_end, is_close_wait, accept, is_open, sendv, recv_done, persists, close, answered, is_connect, called}
+use Rattle.ix_tcpdef.specs.Calls.{is_live, recv_of, kept_end, is_close_wait, accept, is_open, sendv, recv_done, close, answered, is_connect, called}
 use Rattle.ix_tcpdef.specs.Needs.{carries}
-use Rattle.ix_tcpdef.specs.Sound.{IsInRange, IsKept, IsSound, IsWritten, HasWindow}
+use Rattle.ix_tcpdef.specs.Sound.{IsInRange, IsKept}
 use Rattle.ix_tcpdef.specs.Step.{Moment, is_alive, stepped, step, last}
-use Rattle.ix_tcpdef.specs.Laws.{Acknowledges, CarriesStream, Carries, SendsFairly, AreWritten, EachSendsFairly}
+use Rattle.ix_tcpdef.specs.Laws.{Acknowledges, Carries, SendsFairly, AreWritten, EachSendsFairly}
 use Rattle.ix_tcpdef.proofs.FairArrival.{IsQuiet, AreQuiet, fair-quiet, quiet-none, quiet-more, quiet-tells, fair-more, fair-ack, fair-connecting, fair-arrived}
 use Rattle.ix_tcpdef.proofs.KeptStep.{kept-step}
 use Rattle.ix_tcpdef.proofs.KeptFlush.{sends-carries}

@@ -21,7 +21,7 @@ use Rattle.ix_tcpdef.specs.declared.types.Ask.TheVariants as asks
 use Rattle.ix_base.specs.declared.segment.Ret.TheVariants as rets
 
 -- a live handle is that of a connection behind its handshake
-live-known : (cfg : Cfg) (w : Connection) → IsKept cfg w → is_live w ≡ true → is_unknown w.state ≡ false
+pub live-known : (cfg : Cfg) (w : Connection) → IsKept cfg w → is_live w ≡ true → is_unknown w.state ≡ false
 live-known cfg w k live = by_test (is_unknown w.state) refl (w.knocked || w.accepted) refl
   where
     by_test : (a : Bool) → is_unknown w.state ≡ a → (b : Bool) → (w.knocked || w.accepted) ≡ b → a ≡ false
@@ -126,7 +126,7 @@ closed-windows st.Established = refl
 closed-windows st.CloseWait = refl
 closed-windows _ = refl
 
-closed-unknown : (s : State) → is_unknown (closed_state s) ≡ is_unknown s
+pub closed-unknown : (s : State) → is_unknown (closed_state s) ≡ is_unknown s
 closed-unknown st.Established = refl
 closed-unknown st.CloseWait = refl
 closed-unknown _ = refl
@@ -186,7 +186,7 @@ kept-answered cfg (asks.Sendv bytes) j known k = kept-sendv cfg bytes j k
 kept-answered cfg (asks.RecvDone n) j known k = kept-recv_done cfg n j k
 kept-answered cfg asks.Close j known k = kept-close cfg j known k
 
-listen-is : (s : State) → is_listen s ≡ true → s ≡ st.Listen
+pub listen-is : (s : State) → is_listen s ≡ true → s ≡ st.Listen
 listen-is st.Listen e = refl
 listen-is _ e = cc
 

@@ -11,3 +11,5 @@ pub mod KeptCalls
 pub mod KeptStep
 pub mod FairArrival
 pub mod FairStep
+pub mod DeliverBody
+pub mod DeliverStep

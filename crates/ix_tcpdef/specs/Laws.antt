@@ -1,5 +1,5 @@
 -- What is true of the frames of each step and of each run.
-use Rattle.std.specs.Prelude.{◌≡◌, ℕ, ◌+◌, ◌-◌, ◌≤◌, Bool, true, false, ◌⊎◌, List, [], ◌∷◌, ◌++◌, length, drop, min}
+use Rattle.std.specs.Prelude.{◌≡◌, ℕ, ◌+◌, ◌-◌, ◌≤◌, true, false, ◌⊎◌, List, [], ◌∷◌, ◌++◌, length, drop, min}
 use Rattle.std.specs.List.{All}
 use Rattle.ix_base.specs.declared.segment.Seg.{Seg}
 use Rattle.ix_tcpdef.specs.Numbers.{number, has_flag}

@@ -12,3 +12,4 @@ pub mod Needs
 pub mod Sound
 pub mod World
 pub mod Laws
+pub mod Delivered

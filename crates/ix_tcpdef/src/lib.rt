@@ -19,7 +19,7 @@ mod world;
 
 pub use laws::runs_are_sound;
 pub use types::{
-    Ask, Cfg, Connection, HeldHead, HeldSegment, Input, Job, Left, Octets, Output, Outputs, Piece,
-    State, Tcb, Told,
+    ACK, Ask, BEHIND_HEADER, BEHIND_SYN, Cfg, Connection, FIN, HeldHead, HeldSegment, Input, Job,
+    Left, Octets, Output, Outputs, PSH, Piece, RST, SYN, State, Tcb, Told,
 };
 pub use world::{World1, step_plain};
