@@ -1,0 +1,79 @@
+-- Inputs that are refused, and inputs that are read whole.
+use Rattle.std.proofs.Common.{◌≡◌, ◌<◌, ◌≤◌, ◌++◌, ℕ, List, [], ◌∷◌, length, Bool, true, false, nat_lt, if◌then◌else◌, IfOk, IfErr, refl, ◌∙◌, ap, arith}
+use Rattle.std.proofs.lemmas.List.{append-nil}
+use Rattle.std.proofs.lemmas.Bool.Decides.{nat_tests}
+use Rattle.std.specs.Prelude.{Result, Ok, Err, Option, Some, None}
+use Rattle.std.specs.Io.KnownBytes.{prepend_known, IsAtEnd}
+use Rattle.ix_pcap.specs.declared.records.Span.{Span}
+use Rattle.ix_pcap.specs.declared.records.CaptureFault.{CaptureFault}
+use Rattle.ix_pcap.specs.declared.records.CaptureFault.TheVariants.{CutHeader, Pcapng, BadMagic, BadVersion, BadLink, TooManyRecords, CutRecord, NoMemory}
+use Rattle.ix_pcap.specs.Capture.{Gives, frames_of}
+use Rattle.ix_conf.specs.declared.keys.ConfFault.{ConfFault}
+use Rattle.ix_conf.specs.declared.keys.ConfFault.TheVariants as conf
+use Rattle.ix_conf.specs.declared.settings.Conf.{Conf}
+use Rattle.ix_conf.specs.Settings.{Settings, settings_of}
+use Rattle.ix_conf.specs.Value.{Gives as Gives-conf}
+use Rattle.ix_top.specs.Status.{capture_refusal, conf_refusal}
+use Rattle.ix_top.specs.declared.status.Status.TheVariants.{Unbuilt}
+use Rattle.ix_top.specs.declared.status.Unbuilt.TheVariants as unbuilt
+use Rattle.ix_top.specs.Top.{two_frames, frames_read, setup_read, Refuses}
+
+pub two_frames-few : (mac bytes : List ℕ) (spans : List Span) → length spans < 2 → two_frames mac (frames_of bytes spans) ≡ Err (Unbuilt unbuilt.Capture)
+two_frames-few mac bytes [] few = refl
+two_frames-few mac bytes (a ∷ []) few = refl
+two_frames-few mac bytes (a ∷ b ∷ spans) few = absurd (omega (arith, few))
+
+pub two_frames-many : (mac bytes : List ℕ) (spans : List Span) → 3 ≤ length spans → two_frames mac (frames_of bytes spans) ≡ Err (Unbuilt unbuilt.Capture)
+two_frames-many mac bytes [] many = absurd (omega (arith, many))
+two_frames-many mac bytes (a ∷ []) many = absurd (omega (arith, many))
+two_frames-many mac bytes (a ∷ b ∷ []) many = absurd (omega (arith, many))
+two_frames-many mac bytes (a ∷ b ∷ c ∷ spans) many = refl
+
+-- The status of a refused configuration has its cause.
+pub Refuses-conf : (fault : ConfFault) (m : Result Settings ConfFault) → Gives-conf {A = Conf} {M = Settings} settings_of (Err fault) m → Refuses (conf_refusal fault) (setup_read m)
+Refuses-conf conf.Text m is = rw is refl
+Refuses-conf conf.Unknown m is = rw is refl
+Refuses-conf (conf.Missing key) m is = rw is refl
+Refuses-conf (conf.Range key) m is = rw is refl
+Refuses-conf conf.NoMemory m is = tt
+
+-- The status of a refused capture has its cause.
+pub Refuses-capture : (mac bytes : List ℕ) (fault : CaptureFault) (m : Result (List Span) CaptureFault)
+    → Gives {A = List Span} (λ spans. spans) (Err fault) m → Refuses (capture_refusal fault) (frames_read mac bytes m)
+Refuses-capture mac bytes (CutHeader at) m is = rw is refl
+Refuses-capture mac bytes Pcapng m is = rw is refl
+Refuses-capture mac bytes BadMagic m is = rw is refl
+Refuses-capture mac bytes BadVersion m is = rw is refl
+Refuses-capture mac bytes BadLink m is = rw is refl
+Refuses-capture mac bytes TooManyRecords m is = rw is refl
+Refuses-capture mac bytes (CutRecord at) m is = rw is refl
+Refuses-capture mac bytes NoMemory m is = tt
+
+pub IfOk-map : {A E : Type 0} {P Q : A → Type 0} (r : Result A E) → ((x : A) → P x → Q x) → IfOk r P → IfOk r Q
+IfOk-map (Ok x) f p = f x p
+IfOk-map (Err e) f p = tt
+
+pub IfErr-map : {A E : Type 0} {P Q : E → Type 0} (r : Result A E) → ((e : E) → P e → Q e) → IfErr r P → IfErr r Q
+IfErr-map (Ok x) f p = tt
+IfErr-map (Err e) f p = f e p
+
+not_above : (limit n : ℕ) → n ≤ limit → nat_lt limit n ≡ false
+not_above limit n within = grind (arith, nat_tests, within)
+
+past : {A : Type 0} (b : Bool) (x y : A) → b ≡ false → (if b then x else y) ≡ y
+past true x y is = absurd (cc is)
+past false x y is = refl
+
+-- What was read to its end is the whole.
+pub whole_read : (known : Option (List ℕ)) (bytes all : List ℕ) → Some all ≡ prepend_known bytes known → IsAtEnd known → all ≡ bytes
+whole_read None bytes all is end = absurd (cc is)
+whole_read (Some rest) bytes all is end =
+    let same : all ≡ bytes ++ rest = cc is in
+    same ∙ ap (λ (l : List ℕ). bytes ++ l) end ∙ append-nil bytes
+
+-- The meaning of an input that was read to its end and isn't too long is that of the bytes that were read.
+pub input-whole : {A : Type 0} (limit : ℕ) (too_big : A) (meaning : List ℕ → A) (known : Option (List ℕ)) (bytes all : List ℕ)
+    → length bytes ≤ limit → Some all ≡ prepend_known bytes known → IsAtEnd known
+    → (if nat_lt limit (length all) then too_big else meaning all) ≡ meaning bytes
+input-whole limit too_big meaning known bytes all within is end =
+    rw (whole_read known bytes all is end) (past (nat_lt limit (length bytes)) too_big (meaning bytes) (not_above limit (length bytes) within))

@@ -1,0 +1,5 @@
+pub mod Status
+pub mod Setup
+pub mod Handshake
+pub mod Top
+pub mod Loaded

@@ -1,0 +1,18 @@
+//! The top call: all that the program does.
+#![tactic(auto)]
+
+mod handshake;
+mod inputs;
+mod outputs;
+mod reading;
+mod setup;
+mod status;
+mod top;
+mod trace;
+mod writing;
+
+pub use status::{CaptureRefusal, ConfRefusal, ScriptRefusal, Status, Unbuilt, status_text};
+pub use top::ix;
+
+#[cfg(test)]
+mod tests;

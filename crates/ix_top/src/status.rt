@@ -1,0 +1,210 @@
+// What the top call answers, with its number and its text.
+ghost use Rattle.std.specs.Prelude.{◌≡◌, ◌≢◌, ◌++◌, IfOk, string_bytes};
+ghost use Rattle.std.specs.Fmt.{decimal};
+ghost use Rattle.ix_top.specs.Top.{IsStop};
+ghost use Rattle.ix_top.specs.Status.{text_of, conf_text_of, conf_refusal, capture_text_of, unbuilt_text_of, capture_refusal};
+
+use ix_base::{Bytes, NoMemory};
+use ix_conf::{ConfFault, ConfKey};
+use ix_pcap::CaptureFault;
+use std::alloc::{AllocError, Global};
+
+/// How a call of the program ended. A status's number is the program's exit status.
+#[derive(Clone, Copy, Debug, PartialEq, Eq)]
+pub enum Status {
+    /// The whole work was done and written (0).
+    Done,
+    /// The words name no command of the program (1).
+    Usage,
+    /// The configuration is refused (2).
+    Conf(ConfRefusal),
+    /// The script is refused (3).
+    Script(ScriptRefusal),
+    /// The capture is refused (4).
+    Capture(CaptureRefusal),
+    /// The host failed on a role that is read (5).
+    ReadFault,
+    /// The host failed on a role that is written (6).
+    WriteFault,
+    /// Memory ran out, and nothing was written (7).
+    NoMemory,
+    /// The input is beyond what this program can play yet (9).
+    Unbuilt(Unbuilt),
+}
+
+/// Why a configuration is refused: the reader's fault, with its key, or its size.
+#[derive(Clone, Copy, Debug, PartialEq, Eq)]
+pub enum ConfRefusal {
+    Text,
+    Unknown,
+    Missing { key: ConfKey },
+    Range { key: ConfKey },
+    /// It has more than 65,536 bytes.
+    TooBig,
+}
+
+/// Why a script is refused.
+#[derive(Clone, Copy, Debug, PartialEq, Eq)]
+pub enum ScriptRefusal {
+    /// It has more than 8,388,608 bytes.
+    TooBig,
+}
+
+/// Why a capture is refused: the reader's fault, with its place in bytes, or its size.
+#[derive(Clone, Copy, Debug, PartialEq, Eq)]
+pub enum CaptureRefusal {
+    CutHeader { at: usize },
+    Pcapng,
+    BadMagic,
+    BadVersion,
+    BadLink,
+    TooManyRecords,
+    CutRecord { at: usize },
+    /// It has more than 67,108,864 bytes.
+    TooBig,
+}
+
+/// What this program can't play yet.
+#[derive(Clone, Copy, Debug, PartialEq, Eq)]
+pub enum Unbuilt {
+    /// A configuration of several cores, or of another application than echo.
+    Conf,
+    /// A capture of other than two records, or with a record of the local side's own.
+    Capture,
+    /// A script other than the one that plays both records.
+    Script,
+    /// The frame of wire entry `w` isn't the one that a handshake has there.
+    Input { w: u32 },
+}
+
+impl Status {
+    ghost use Rattle.ix_top.specs.Status.{number_of};
+
+    /// The exit status of a program that ends so.
+    pub fn number(&self) -> u8
+        ensures { result ≡ number_of self.now }
+    {
+        match self {
+            Status::Done => 0,
+            Status::Usage => 1,
+            Status::Conf(_) => 2,
+            Status::Script(_) => 3,
+            Status::Capture(_) => 4,
+            Status::ReadFault => 5,
+            Status::WriteFault => 6,
+            Status::NoMemory => 7,
+            Status::Unbuilt(_) => 9,
+        }
+    }
+}
+
+/// The status of a configuration that the reader refused.
+pub fn conf_status(fault: ConfFault) -> Status
+    ensures status { result ≡ conf_refusal fault }
+    ensures stops { IsStop result }
+    ensures no_fault { result ≢ Status.ReadFault }
+{
+    Status::Conf(match fault {
+        ConfFault::Text => ConfRefusal::Text,
+        ConfFault::Unknown => ConfRefusal::Unknown,
+        ConfFault::Missing { key } => ConfRefusal::Missing { key },
+        ConfFault::Range { key } => ConfRefusal::Range { key },
+        ConfFault::NoMemory => return Status::NoMemory,
+    })
+}
+
+/// The status of a capture that the reader refused.
+pub fn capture_status(fault: CaptureFault) -> Status
+    ensures status { result ≡ capture_refusal fault }
+    ensures stops { IsStop result }
+    ensures no_fault { result ≢ Status.ReadFault }
+{
+    Status::Capture(match fault {
+        CaptureFault::CutHeader { at } => CaptureRefusal::CutHeader { at },
+        CaptureFault::Pcapng => CaptureRefusal::Pcapng,
+        CaptureFault::BadMagic => CaptureRefusal::BadMagic,
+        CaptureFault::BadVersion => CaptureRefusal::BadVersion,
+        CaptureFault::BadLink => CaptureRefusal::BadLink,
+        CaptureFault::TooManyRecords => CaptureRefusal::TooManyRecords,
+        CaptureFault::CutRecord { at } => CaptureRefusal::CutRecord { at },
+        CaptureFault::NoMemory => return Status::NoMemory,
+    })
+}
+
+/// The one line, without its line feed, that tells a status on standard error; nothing for `Done`.
+pub fn status_text(alloc: Global, status: &Status) -> Result<Bytes, NoMemory>
+    ensures { IfOk result (λ text. text ≡ text_of status.now) }
+{
+    let text = match status {
+        Status::Done => String::new(alloc),
+        Status::Usage => String::from_str(alloc, USAGE)?,
+        Status::Conf(refusal) => conf_text(alloc, refusal)?,
+        Status::Script(ScriptRefusal::TooBig) => String::from_str(alloc, "ix: script: too-big")?,
+        Status::Capture(refusal) => capture_text(alloc, refusal)?,
+        Status::ReadFault => String::from_str(alloc, "ix: read fault")?,
+        Status::WriteFault => String::from_str(alloc, "ix: write fault")?,
+        Status::NoMemory => String::from_str(alloc, "ix: no memory")?,
+        Status::Unbuilt(unbuilt) => unbuilt_text(alloc, unbuilt)?,
+    };
+    Ok(Bytes::from_vec(text.into_bytes()))
+}
+
+const USAGE: &str = "ix: usage: ix play CONF SCRIPT CAPTURE REPLIES TRACE";
+
+fn conf_text(alloc: Global, refusal: &ConfRefusal) -> Result<String, AllocError>
+    ensures { IfOk result (λ text. string_bytes text ≡ conf_text_of refusal.now) }
+{
+    match refusal {
+        ConfRefusal::Text => String::from_str(alloc, "ix: conf: text"),
+        ConfRefusal::Unknown => String::from_str(alloc, "ix: conf: unknown"),
+        ConfRefusal::Missing { key } => named(alloc, "ix: conf: missing ", key.text()),
+        ConfRefusal::Range { key } => named(alloc, "ix: conf: range ", key.text()),
+        ConfRefusal::TooBig => String::from_str(alloc, "ix: conf: too-big"),
+    }
+}
+
+fn capture_text(alloc: Global, refusal: &CaptureRefusal) -> Result<String, AllocError>
+    ensures { IfOk result (λ text. string_bytes text ≡ capture_text_of refusal.now) }
+{
+    match refusal {
+        CaptureRefusal::CutHeader { at } => counted(alloc, "ix: capture: cut-header ", *at),
+        CaptureRefusal::Pcapng => String::from_str(alloc, "ix: capture: pcapng"),
+        CaptureRefusal::BadMagic => String::from_str(alloc, "ix: capture: bad-magic"),
+        CaptureRefusal::BadVersion => String::from_str(alloc, "ix: capture: bad-version"),
+        CaptureRefusal::BadLink => String::from_str(alloc, "ix: capture: bad-link"),
+        CaptureRefusal::TooManyRecords => {
+            String::from_str(alloc, "ix: capture: too-many-records")
+        }
+        CaptureRefusal::CutRecord { at } => counted(alloc, "ix: capture: cut-record ", *at),
+        CaptureRefusal::TooBig => String::from_str(alloc, "ix: capture: too-big"),
+    }
+}
+
+fn unbuilt_text(alloc: Global, unbuilt: &Unbuilt) -> Result<String, AllocError>
+    ensures { IfOk result (λ text. string_bytes text ≡ unbuilt_text_of unbuilt.now) }
+{
+    match unbuilt {
+        Unbuilt::Conf => String::from_str(alloc, "ix: unbuilt conf"),
+        Unbuilt::Capture => String::from_str(alloc, "ix: unbuilt capture"),
+        Unbuilt::Script => String::from_str(alloc, "ix: unbuilt script"),
+        Unbuilt::Input { w } => counted(alloc, "ix: unbuilt input ", *w as usize),
+    }
+}
+
+// These words and a name.
+fn named(alloc: Global, words: &str, name: &str) -> Result<String, AllocError>
+    ensures { IfOk result (λ text. string_bytes text ≡ words.now ++ name.now) }
+{
+    let mut text = String::from_str(alloc, words)?;
+    text.push_str(name)?;
+    Ok(text)
+}
+
+// These words and a number.
+fn counted(alloc: Global, words: &str, n: usize) -> Result<String, AllocError>
+    ensures { IfOk result (λ text. string_bytes text ≡ words.now ++ decimal n) }
+{
+    let mut text = String::from_str(alloc, words)?;
+    text.push_str(n.to_string(alloc)?.as_str())?;
+    Ok(text)
+}

@@ -1,0 +1,54 @@
+// The top call.
+ghost use Rattle.std.specs.Prelude.{◌≡◌, ◌≢◌, ◌↔◌, IsOk};
+ghost use Rattle.ix_base.specs.declared.role.Kind.TheVariants.{Reading, Writing};
+ghost use Rattle.ix_base.specs.Host.{Rose};
+ghost use Rattle.ix_top.specs.Top.{Answers, Tells, Given, AllRead, Played, PlayedFront, WritesNothing, play_meaning, IsPlay, IsDoneOrNoMemory};
+
+use crate::inputs::read_inputs;
+use crate::outputs::{deliver, perform};
+use crate::status::Status;
+use ix_base::Host;
+use std::alloc::Global;
+use std::sync::Wait;
+
+/// Does all that the program does. `words` are those after the program's name.
+///
+/// The inputs are read in the order configuration, capture, script, each with its meaning before the next; both files are made before
+/// the first of the two roles that are written is prepared; the trace is begun when the replies are whole.
+pub fn ix<R: Wait, H: Host>(_rt: &R, alloc: Global, words: &[String], host: &mut H) -> Status
+    ensures usage { (result ≡ Status.Usage) ↔ (¬ IsPlay words.now) }
+    ensures answers { IsPlay words.now → (g : Given) → Tells (H.state host.old) g → Answers result (play_meaning g) }
+
+    // The whole work was done and written.
+    ensures read { result ≡ Status.Done → AllRead (H.state host.new) }
+    ensures done { result ≡ Status.Done → (g : Given) → Tells (H.state host.old) g → Played g (H.state host.old) (H.state host.new) }
+
+    // What was written is a front of what the play writes.
+    ensures front { result ≡ Status.WriteFault → (g : Given) → Tells (H.state host.old) g → PlayedFront g (H.state host.old) (H.state host.new) }
+    ensures nothing { result ≢ Status.Done → result ≢ Status.WriteFault → WritesNothing (H.state host.old) (H.state host.new) }
+
+    // Without a fault the whole work is done where the inputs can be played.
+    ensures complete { IsPlay words.now → (g : Given) → Tells (H.state host.old) g → IsOk (play_meaning g)
+        → ¬ Rose ((H.state host.old).faults Reading) ((H.state host.new).faults Reading)
+        → ¬ Rose ((H.state host.old).faults Writing) ((H.state host.new).faults Writing) → IsDoneOrNoMemory result }
+
+    ensures read_fault { result ≡ Status.ReadFault → Rose ((H.state host.old).faults Reading) ((H.state host.new).faults Reading) }
+    ensures write_fault { result ≡ Status.WriteFault → Rose ((H.state host.old).faults Writing) ((H.state host.new).faults Writing) }
+{
+    match words {
+        [command, conf, script, capture, replies, trace] if command.as_str() == "play" => {
+            let handshake = match read_inputs(alloc, host, conf, script, capture) {
+                Ok(handshake) => handshake,
+                Err(status) => return status,
+            };
+            let Ok(output) = perform(alloc, &handshake) else {
+                return Status::NoMemory;
+            };
+            match deliver(host, replies, trace, &output) {
+                Ok(()) => Status::Done,
+                Err(_) => Status::WriteFault,
+            }
+        }
+        _ => Status::Usage,
+    }
+}
