@@ -1,0 +1,104 @@
+// The map, and the wheel that holds it.
+ghost use Rattle.std.specs.Prelude.{◌≡◌, [], filter, IfOk, OnOk, OnErr};
+ghost use Rattle.ix_time.specs.Entries.{put, without, is_later};
+ghost use Rattle.ix_time.specs.Due.{GivesDue};
+
+use crate::due::{all_due, moved, take_all};
+use crate::places::{PLACES, place_of};
+use crate::ticks::Ticks;
+use crate::wheel::{empty_places, put_at, replace_first, take_from};
+use ix_base::NoMemory;
+use std::alloc::Global;
+use std::marker::Model;
+
+/// A finite map from keys to ticks. It is kept in a wheel of six levels with 64 slots each, beside a place for what is overdue and one for what is far
+/// away; each deadline stands at the place that the clock and its tick name. The clock begins at 0 and is the greatest tick to which `due` has brought it.
+#[derive(Drop)]
+pub struct Deadlines {
+    alloc: Global,
+    clock: u64,
+    ticks: Ticks,
+    places: Vec<Ticks>,
+}
+
+impl Model for Deadlines {
+    ghost use Rattle.std.specs.Prelude.{List, ℕ};
+    ghost use Rattle.ix_time.specs.Wheel.{KeepsPlaces};
+
+    ghost Value = { List (ℕ × ℕ) };
+
+    ghost view = { λ d. d.ticks };
+
+    ghost invariant = { λ d. KeepsPlaces d.clock d.ticks d.places.items };
+}
+
+impl Deadlines {
+    /// No deadline, at clock 0. It takes no memory yet.
+    pub fn new(alloc: Global) -> Deadlines
+        ensures { result ≡ [] }
+    {
+        Deadlines {
+            alloc,
+            clock: 0,
+            ticks: Ticks::new(alloc),
+            places: Vec::new(alloc),
+        }
+    }
+
+    /// Puts a key with its tick, in the place of the tick that it had. After `NoMemory` the map is as before.
+    pub fn set(&mut self, key: u32, at: u64) -> Result<(), NoMemory>
+        ensures ok { OnOk result (self.new ≡ put key at self.old) }
+        ensures err { OnErr result (self.new ≡ self.old) }
+    {
+        if self.places.is_empty() {
+            self.places = empty_places(self.alloc, PLACES)?;
+        }
+        let place = place_of(self.clock, at);
+        put_at(&mut self.places, place, key, at)?;
+        let before = self.ticks.get(key);
+        if self.ticks.insert(key, at).is_err() {
+            take_from(&mut self.places, place, key);
+            return Err(NoMemory);
+        }
+        if let Some(tick) = before {
+            let old_place = place_of(self.clock, tick);
+            if old_place != place {
+                take_from(&mut self.places, old_place, key);
+            }
+        }
+        Ok(())
+    }
+
+    /// Takes a key out, where it is there. It takes no memory.
+    pub fn clear(&mut self, key: u32)
+        ensures { self.new ≡ without key self.old }
+    {
+        if let Some(tick) = self.ticks.remove(key) {
+            let place = place_of(self.clock, tick);
+            take_from(&mut self.places, place, key);
+        }
+    }
+
+    /// Takes out exactly the keys whose tick is at most `now`, and gives them in order of tick, and of key within a tick. After `NoMemory` the map is as
+    /// before, and so is the clock.
+    pub fn due(&mut self, now: u64) -> Result<Vec<u32>, NoMemory>
+        ensures given { IfOk result (λ keys. GivesDue now self.old keys.items) }
+        ensures ok { OnOk result (self.new ≡ filter (is_later now) self.old) }
+        ensures err { OnErr result (self.new ≡ self.old) }
+    {
+        let clock = self.clock.max(now);
+        if self.places.is_empty() {
+            self.clock = clock;
+            return Ok(Vec::new(self.alloc));
+        }
+        let last = place_of(self.clock, now);
+        let mut due = all_due(self.alloc, self.places.as_slice(), last, now)?;
+        due.sort_unstable();
+        let keys: Vec<u32> = due.iter().map(|d| d.1).collect(self.alloc)?;
+        let first = moved(self.alloc, &self.places[last], last, now, clock)?;
+        take_all(&mut self.ticks, keys.as_slice());
+        replace_first(&mut self.places, first);
+        self.clock = clock;
+        Ok(keys)
+    }
+}
