@@ -1,5 +1,5 @@
 -- The rule of places: where in the wheel a tick stands.
-use Rattle.std.specs.Prelude.{ℕ, ◌+◌, ◌*◌, ◌/◌, ◌%◌, ◌==◌, nat_le, zero, suc, Bool, if◌then◌else◌}
+use Rattle.std.specs.Prelude.{ℕ, ◌+◌, ◌*◌, ◌/◌, ◌%◌, ◌==◌, nat_le, ◌&&◌, zero, suc, Bool, false, not, Option, Some, None, if◌then◌else◌}
 
 -- The level of a tick, of so many levels: the highest group of six bits in which it and the clock differ. Where they differ above all
 -- levels, it is the number of levels.
@@ -25,3 +25,8 @@ place_of clock tick =
 -- a deadline stands at this place, at this clock
 abbrev pub stands_at : ℕ → ℕ → (ℕ × ℕ) → Bool
 stands_at clock place entry = place_of clock entry.1 == place
+
+-- an entry's old tick had this place, and its new place is another
+abbrev pub has_left : ℕ → Option ℕ → ℕ → ℕ → Bool
+has_left clock None new_place place = false
+has_left clock (Some tick) new_place place = place_of clock tick == place && not (new_place == place)

@@ -1,5 +1,5 @@
 -- What the wheel keeps.
-use Rattle.std.specs.Prelude.{◌≡◌, ◌<◌, ℕ, List, [], ◌⊎◌, length, filter, slice_index_or}
+use Rattle.std.specs.Prelude.{◌≡◌, ℕ, List, [], ◌⊎◌, length, filter, slice_index_or}
 use Rattle.ix_time.specs.Places.{stands_at}
 use Rattle.ix_time.specs.Entries.{IsRising}
 

@@ -3,10 +3,10 @@ ghost use Rattle.std.specs.Prelude.{◌≡◌, [], filter, IfOk, OnOk, OnErr};
 ghost use Rattle.ix_time.specs.Entries.{put, without, is_later};
 ghost use Rattle.ix_time.specs.Due.{GivesDue};
 
-use crate::due::{all_due, moved, take_all};
-use crate::places::{PLACES, place_of};
+use crate::due::{all_due, keys_of, moved, take_all};
+use crate::places::place_of;
 use crate::ticks::Ticks;
-use crate::wheel::{empty_places, put_at, replace_first, take_from};
+use crate::wheel::{leave, make_places, put_at, replace_first, take_from};
 use ix_base::NoMemory;
 use std::alloc::Global;
 use std::marker::Model;
@@ -50,22 +50,15 @@ impl Deadlines {
         ensures ok { OnOk result (self.new ≡ put key at self.old) }
         ensures err { OnErr result (self.new ≡ self.old) }
     {
-        if self.places.is_empty() {
-            self.places = empty_places(self.alloc, PLACES)?;
-        }
+        make_places(self.alloc, &mut self.places)?;
         let place = place_of(self.clock, at);
         put_at(&mut self.places, place, key, at)?;
         let before = self.ticks.get(key);
-        if self.ticks.insert(key, at).is_err() {
+        if let Err(failed) = self.ticks.insert(key, at) {
             take_from(&mut self.places, place, key);
-            return Err(NoMemory);
+            return Err(failed);
         }
-        if let Some(tick) = before {
-            let old_place = place_of(self.clock, tick);
-            if old_place != place {
-                take_from(&mut self.places, old_place, key);
-            }
-        }
+        leave(&mut self.places, self.clock, before, place, key);
         Ok(())
     }
 
@@ -74,8 +67,8 @@ impl Deadlines {
         ensures { self.new ≡ without key self.old }
     {
         if let Some(tick) = self.ticks.remove(key) {
-            let place = place_of(self.clock, tick);
-            take_from(&mut self.places, place, key);
+            let standing = place_of(self.clock, tick);
+            take_from(&mut self.places, standing, key);
         }
     }
 
@@ -92,9 +85,9 @@ impl Deadlines {
             return Ok(Vec::new(self.alloc));
         }
         let last = place_of(self.clock, now);
-        let mut due = all_due(self.alloc, self.places.as_slice(), last, now)?;
+        let mut due = all_due(self.alloc, &self.places[..=last], now)?;
         due.sort_unstable();
-        let keys: Vec<u32> = due.iter().map(|d| d.1).collect(self.alloc)?;
+        let keys = keys_of(self.alloc, due.as_slice())?;
         let first = moved(self.alloc, &self.places[last], last, now, clock)?;
         take_all(&mut self.ticks, keys.as_slice());
         replace_first(&mut self.places, first);

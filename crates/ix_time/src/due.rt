@@ -1,8 +1,9 @@
 // What a due call gives and moves: read first, and kept in memory taken for it, so that nothing is changed before.
-ghost use Rattle.std.specs.Prelude.{◌≡◌, ◌<◌, ◌++◌, [], ℕ, length, map, filter, take, slice_index_or, IfOk, OnOk};
-ghost use Rattle.ix_time.specs.Places.{stands_at};
-ghost use Rattle.ix_time.specs.Entries.{timed, is_due, is_later, without_all, IsRising};
-ghost use Rattle.ix_time.specs.Due.{due_up_to};
+ghost use Rattle.std.specs.Prelude.{◌≡◌, ◌<◌, ◌≤◌, ◌+◌, ◌++◌, [], ℕ, length, map, filter, slice_index_or, All, IfOk, OnOk};
+ghost use Rattle.std.specs.List.{flat_map};
+ghost use Rattle.ix_time.specs.Places.{place_of, stands_at};
+ghost use Rattle.ix_time.specs.Entries.{is_later, without_all};
+ghost use Rattle.ix_time.specs.Due.{due_of};
 
 use crate::places::place_of;
 use crate::ticks::Ticks;
@@ -17,7 +18,7 @@ pub fn add_due(
     now: u64,
     due: &mut Vec<(u64, u32)>,
 ) -> Result<(), NoMemory>
-    ensures { OnOk result (due.new.items ≡ due.old.items ++ map timed (filter (is_due now) ticks.now)) }
+    ensures { OnOk result (due.new.items ≡ due.old.items ++ due_of now ticks.now) }
 {
     let entries = ticks.to_vec(alloc)?;
     for (key, tick) in entries.as_slice() {
@@ -28,31 +29,30 @@ pub fn add_due(
     Ok(())
 }
 
-/// Those of the first places, up to the last one, that are due, as ticks and keys.
-pub fn all_due(
-    alloc: Global,
-    places: &[Ticks],
-    last: usize,
-    now: u64,
-) -> Result<Vec<(u64, u32)>, NoMemory>
-    requires { last < length places.now }
-    ensures { IfOk result (λ due. due.items ≡ due_up_to now (suc last) places.now) }
+/// Those of all these places that are due, as ticks and keys.
+pub fn all_due(alloc: Global, places: &[Ticks], now: u64) -> Result<Vec<(u64, u32)>, NoMemory>
+    ensures { IfOk result (λ due. due.items ≡ flat_map (due_of now) places.now) }
 {
     let mut due = Vec::new(alloc);
-    for place in 0..=last {
-        add_due(alloc, &places[place], now, &mut due)?;
+    for ticks in places {
+        add_due(alloc, ticks, now, &mut due)?;
     }
     Ok(due)
 }
 
-/// The first places, up to the last one, as they are once the clock stands at `clock`: those of the last place that are later than `now` stand there.
+/// The first places, up to the last one, with those later than `now` of the last one, as they stand once the clock is `clock`.
 pub fn moved(
     alloc: Global,
     ticks: &Ticks,
     last: usize,
     now: u64,
     clock: u64,
-) -> Result<Vec<Ticks>, NoMemory> {
+) -> Result<Vec<Ticks>, NoMemory>
+    requires size { last < 386 }
+    requires near { All (λ e. now < e.1 → place_of clock e.1 ≤ last) ticks.now }
+    ensures places { IfOk result (λ places. (p : ℕ) → slice_index_or places.items p [] ≡ filter (stands_at clock p) (filter (is_later now) ticks.now)) }
+    ensures len { IfOk result (λ places. length places.items ≡ last + 1) }
+{
     let mut places = empty_places(alloc, last + 1)?;
     let entries = ticks.to_vec(alloc)?;
     for (key, tick) in entries.as_slice() {
@@ -61,6 +61,14 @@ pub fn moved(
         }
     }
     Ok(places)
+}
+
+/// The keys alone.
+pub fn keys_of(alloc: Global, due: &[(u64, u32)]) -> Result<Vec<u32>, NoMemory>
+    ensures { IfOk result (λ keys. keys.items ≡ map (λ d. d.1) due.now) }
+{
+    let keys = due.iter().map(|(_, key)| *key).collect(alloc)?;
+    Ok(keys)
 }
 
 /// Takes the keys out.

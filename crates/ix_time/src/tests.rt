@@ -150,9 +150,7 @@ fn a_thousand_steps_are_those_of_a_plain_map(rt: HostRuntime) -> Result<(), Fail
 }
 
 #[test]
-fn ten_thousand_keys_of_one_tick_are_set_cleared_and_given(
-    rt: HostRuntime,
-) -> Result<(), Fail> {
+fn ten_thousand_keys_of_one_tick_are_set_cleared_and_given(rt: HostRuntime) -> Result<(), Fail> {
     let mut deadlines = Deadlines::new(rt.alloc());
     for key in 0..10_000u32 {
         deadlines.set(key, 1 << 20)?;

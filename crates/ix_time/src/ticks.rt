@@ -46,9 +46,12 @@ impl Ticks {
         ensures ok { OnOk result (self.new ≡ put key tick self.old) }
         ensures err { OnErr result (self.new ≡ self.old) }
         ensures absent { OnErr result (tick_of key self.old ≡ None) }
+        ensures rising { IsRising self.new }
     {
-        self.map.insert(key, tick)?;
-        Ok(())
+        match self.map.insert(key, tick) {
+            Ok(_) => Ok(()),
+            Err(_) => Err(NoMemory),
+        }
     }
 
     pub fn remove(&mut self, key: u32) -> Option<u64>

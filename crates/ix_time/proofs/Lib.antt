@@ -1,0 +1,5 @@
+pub mod FilterLemmas
+pub mod EntryLemmas
+pub mod PlaceLemmas
+pub mod WheelLemmas
+pub mod DueLemmas
