@@ -3,3 +3,4 @@ pub mod EntryLemmas
 pub mod PlaceLemmas
 pub mod WheelLemmas
 pub mod DueLemmas
+pub mod MapLemmas

@@ -1,5 +1,5 @@
 -- A finite map from keys to ticks, as the list of its entries in order of keys.
-use Rattle.std.specs.Prelude.{ℕ, ◌<◌, ◌==◌, ◌++◌, nat_lt, nat_le, not, Bool, List, [], ◌∷◌, Option, Some, None, filter, if◌then◌else◌}
+use Rattle.std.specs.Prelude.{ℕ, ◌<◌, ◌==◌, ◌++◌, nat_lt, nat_le, not, Bool, false, List, [], ◌∷◌, Option, Some, None, filter, if◌then◌else◌}
 use Rattle.std.specs.List.{list_any}
 
 -- each entry's key is above this one
@@ -38,3 +38,13 @@ is_later now e = not (nat_le e.1 now)
 -- the tick first, then the key
 abbrev pub timed : (ℕ × ℕ) → (ℕ × ℕ)
 timed e = (e.1, e.0)
+
+-- a tick that is after now
+abbrev pub later_tick : ℕ → Option ℕ → Option ℕ
+later_tick now None = None
+later_tick now (Some tick) = if nat_le tick now then None else Some tick
+
+-- there is a tick, and it is at most now
+abbrev pub is_reached : ℕ → Option ℕ → Bool
+is_reached now None = false
+is_reached now (Some tick) = nat_le tick now

@@ -1,6 +1,6 @@
 // The map, and the wheel that holds it.
-ghost use Rattle.std.specs.Prelude.{◌≡◌, [], filter, IfOk, OnOk, OnErr};
-ghost use Rattle.ix_time.specs.Entries.{put, without, is_later};
+ghost use Rattle.std.specs.Prelude.{◌≡◌, ◌==◌, [], ℕ, filter, count_by, IfOk, OnOk, OnErr, if◌then◌else◌};
+ghost use Rattle.ix_time.specs.Entries.{tick_of, put, without, is_later, later_tick, is_reached};
 ghost use Rattle.ix_time.specs.Due.{GivesDue};
 
 use crate::due::{all_due, keys_of, moved, take_all};
@@ -48,6 +48,7 @@ impl Deadlines {
     /// Puts a key with its tick, in the place of the tick that it had. After `NoMemory` the map is as before.
     pub fn set(&mut self, key: u32, at: u64) -> Result<(), NoMemory>
         ensures ok { OnOk result (self.new ≡ put key at self.old) }
+        ensures ticks { OnOk result ((q : ℕ) → tick_of q self.new ≡ (if q == key then Some at else tick_of q self.old)) }
         ensures err { OnErr result (self.new ≡ self.old) }
     {
         make_places(self.alloc, &mut self.places)?;
@@ -64,7 +65,8 @@ impl Deadlines {
 
     /// Takes a key out, where it is there. It takes no memory.
     pub fn clear(&mut self, key: u32)
-        ensures { self.new ≡ without key self.old }
+        ensures entries { self.new ≡ without key self.old }
+        ensures ticks { (q : ℕ) → tick_of q self.new ≡ (if q == key then None else tick_of q self.old) }
     {
         if let Some(tick) = self.ticks.remove(key) {
             let standing = place_of(self.clock, tick);
@@ -76,7 +78,9 @@ impl Deadlines {
     /// before, and so is the clock.
     pub fn due(&mut self, now: u64) -> Result<Vec<u32>, NoMemory>
         ensures given { IfOk result (λ keys. GivesDue now self.old keys.items) }
+        ensures times { IfOk result (λ keys. (q : ℕ) → count_by (λ k. k == q) keys.items ≡ (if is_reached now (tick_of q self.old) then 1 else 0)) }
         ensures ok { OnOk result (self.new ≡ filter (is_later now) self.old) }
+        ensures ticks { OnOk result ((q : ℕ) → tick_of q self.new ≡ later_tick now (tick_of q self.old)) }
         ensures err { OnErr result (self.new ≡ self.old) }
     {
         let clock = self.clock.max(now);

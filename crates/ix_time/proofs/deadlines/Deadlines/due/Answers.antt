@@ -4,6 +4,7 @@ use Rattle.ix_time.specs.Entries.{without_all, is_later}
 use Rattle.ix_time.specs.Places.{place_of, stands_at}
 use Rattle.ix_time.proofs.PlaceLemmas.{advances-max}
 use Rattle.ix_time.proofs.WheelLemmas.{read-there, made-there}
+use Rattle.ix_time.proofs.MapLemmas.{tick_of-later, times-given}
 use Rattle.ix_time.proofs.DueLemmas.{come-near, advanced, found, left-after}
 use Rattle.ix_time.proofs.deadlines.Deadlines.due.Goals as goal
 
@@ -26,25 +27,51 @@ returns-clause-given c =
     let some : 0 < length c.self.inside.places.items = search rules in
     let whole = made-there c.self.inside.clock c.self.inside.ticks c.self.inside.places.items c.self.invariant some in
     let permuted : IsPermutation c.in_ok-due.due.items c.sort_unstable.new.self.items = c.sort_unstable.ensures.permutation in
-    rw (← c.self.view_is) (record {
-      ticks_and_keys = c.sort_unstable.new.self.items;
-      keys = c.in_ok-keys.ensures ∙ ap (map (λ d. d.1)) c.as_slice.ensures.value;
-      exact = found c.self.inside.clock c.args.now c.self.inside.ticks c.in_ok-due.due.items c.sort_unstable.new.self.items c.self.inside.places.items c.deref.result.now
-          c.place_of-last.result c.self.invariant whole c.place_of-last.ensures.place c.deref.ensures.value c.in_ok-due.ensures permuted;
-      order = c.sort_unstable.ensures.sorted;
-    })
+    let all =
+    found c.self.inside.clock c.args.now c.self.inside.ticks c.in_ok-due.due.items c.sort_unstable.new.self.items c.self.inside.places.items c.deref.result.now
+    c.place_of-last.result c.self.invariant whole c.place_of-last.ensures.place c.deref.ensures.value c.in_ok-due.ensures permuted in
+    let keys : c.in_ok-keys.keys.items ≡ map (λ d. d.1) c.sort_unstable.new.self.items = c.in_ok-keys.ensures ∙ ap (map (λ d. d.1)) c.as_slice.ensures.value in
+    rw (← c.self.view_is) (record { ticks_and_keys = c.sort_unstable.new.self.items; keys = keys; exact = all; order = c.sort_unstable.ensures.sorted })
+
+pub returns-clause-times : goal.returns-clause-times
+returns-clause-times c =
+    let some : 0 < length c.self.inside.places.items = search rules in
+    let whole = made-there c.self.inside.clock c.self.inside.ticks c.self.inside.places.items c.self.invariant some in
+    let permuted : IsPermutation c.in_ok-due.due.items c.sort_unstable.new.self.items = c.sort_unstable.ensures.permutation in
+    let all =
+    found c.self.inside.clock c.args.now c.self.inside.ticks c.in_ok-due.due.items c.sort_unstable.new.self.items c.self.inside.places.items c.deref.result.now
+    c.place_of-last.result c.self.invariant whole c.place_of-last.ensures.place c.deref.ensures.value c.in_ok-due.ensures permuted in
+    let keys : c.in_ok-keys.keys.items ≡ map (λ d. d.1) c.sort_unstable.new.self.items = c.in_ok-keys.ensures ∙ ap (map (λ d. d.1)) c.as_slice.ensures.value in
+    rw (← c.self.view_is)
+    (λ q. times-given c.args.now q c.self.inside.ticks c.sort_unstable.new.self.items c.in_ok-keys.keys.items c.self.invariant.rising all keys)
 
 pub returns-clause-ok : goal.returns-clause-ok
 returns-clause-ok c =
     let some : 0 < length c.self.inside.places.items = search rules in
     let whole = made-there c.self.inside.clock c.self.inside.ticks c.self.inside.places.items c.self.invariant some in
     let permuted : IsPermutation c.in_ok-due.due.items c.sort_unstable.new.self.items = c.sort_unstable.ensures.permutation in
-    let all = found c.self.inside.clock c.args.now c.self.inside.ticks c.in_ok-due.due.items c.sort_unstable.new.self.items c.self.inside.places.items c.deref.result.now
+    let all =
+    found c.self.inside.clock c.args.now c.self.inside.ticks c.in_ok-due.due.items c.sort_unstable.new.self.items c.self.inside.places.items c.deref.result.now
     c.place_of-last.result c.self.invariant whole c.place_of-last.ensures.place c.deref.ensures.value c.in_ok-due.ensures permuted in
     let keys : c.in_ok-keys.keys.items ≡ map (λ d. d.1) c.sort_unstable.new.self.items = c.in_ok-keys.ensures ∙ ap (map (λ d. d.1)) c.as_slice.ensures.value in
-    rw (← c.self.view_is)
-    (c.take_all.ensures ∙ ap (λ ks. without_all ks c.self.inside.ticks) (c.as_slice-2.ensures.value ∙ keys)
-    ∙ left-after c.args.now c.self.inside.ticks c.sort_unstable.new.self.items c.self.invariant.rising all)
+    let left : c.take_all.new.ticks ≡ filter (is_later c.args.now) c.self.inside.ticks =
+    c.take_all.ensures ∙ ap (λ ks. without_all ks c.self.inside.ticks) (c.as_slice-2.ensures.value ∙ keys)
+    ∙ left-after c.args.now c.self.inside.ticks c.sort_unstable.new.self.items c.self.invariant.rising all in
+    rw (← c.self.view_is) left
+
+pub returns-clause-ticks : goal.returns-clause-ticks
+returns-clause-ticks c =
+    let some : 0 < length c.self.inside.places.items = search rules in
+    let whole = made-there c.self.inside.clock c.self.inside.ticks c.self.inside.places.items c.self.invariant some in
+    let permuted : IsPermutation c.in_ok-due.due.items c.sort_unstable.new.self.items = c.sort_unstable.ensures.permutation in
+    let all =
+    found c.self.inside.clock c.args.now c.self.inside.ticks c.in_ok-due.due.items c.sort_unstable.new.self.items c.self.inside.places.items c.deref.result.now
+    c.place_of-last.result c.self.invariant whole c.place_of-last.ensures.place c.deref.ensures.value c.in_ok-due.ensures permuted in
+    let keys : c.in_ok-keys.keys.items ≡ map (λ d. d.1) c.sort_unstable.new.self.items = c.in_ok-keys.ensures ∙ ap (map (λ d. d.1)) c.as_slice.ensures.value in
+    let left : c.take_all.new.ticks ≡ filter (is_later c.args.now) c.self.inside.ticks =
+    c.take_all.ensures ∙ ap (λ ks. without_all ks c.self.inside.ticks) (c.as_slice-2.ensures.value ∙ keys)
+    ∙ left-after c.args.now c.self.inside.ticks c.sort_unstable.new.self.items c.self.invariant.rising all in
+    rw (left, ← c.self.view_is) (λ q. tick_of-later c.args.now q c.self.inside.ticks c.self.invariant.rising)
 
 pub invariant_of-self-2 : goal.invariant_of-self-2
 invariant_of-self-2 c =
@@ -53,7 +80,8 @@ invariant_of-self-2 c =
     let some : 0 < length c.self.inside.places.items = search rules in
     let whole = made-there c.self.inside.clock c.self.inside.ticks c.self.inside.places.items c.self.invariant some in
     let permuted : IsPermutation c.in_ok-due.due.items c.sort_unstable.new.self.items = c.sort_unstable.ensures.permutation in
-    let all = found c.self.inside.clock c.args.now c.self.inside.ticks c.in_ok-due.due.items c.sort_unstable.new.self.items c.self.inside.places.items c.deref.result.now
+    let all =
+    found c.self.inside.clock c.args.now c.self.inside.ticks c.in_ok-due.due.items c.sort_unstable.new.self.items c.self.inside.places.items c.deref.result.now
     c.place_of-last.result c.self.invariant whole c.place_of-last.ensures.place c.deref.ensures.value c.in_ok-due.ensures permuted in
     let keys : c.in_ok-keys.keys.items ≡ map (λ d. d.1) c.sort_unstable.new.self.items = c.in_ok-keys.ensures ∙ ap (map (λ d. d.1)) c.as_slice.ensures.value in
     let left : c.take_all.new.ticks ≡ filter (is_later c.args.now) c.self.inside.ticks =

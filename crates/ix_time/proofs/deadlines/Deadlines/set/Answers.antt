@@ -1,6 +1,7 @@
 use Rattle.std.proofs.Common.{◌∙◌}
 use Rattle.ix_time.specs.Entries.{put, IsRising}
 use Rattle.ix_time.proofs.WheelLemmas.{set-kept, set-undone, Placed}
+use Rattle.ix_time.proofs.MapLemmas.{tick_of-put}
 use Rattle.ix_time.proofs.deadlines.Deadlines.set.Goals as goal
 
 pub invariant_of-self-in-Err : goal.invariant_of-self-in-Err
@@ -27,3 +28,6 @@ invariant_of-self-2 c =
     rw c.in_default.ensures.ok
     (set-kept c.self.inside.clock c.args.key c.args.at c.self.inside.ticks c.get-before.result c.make_places.new.places.items c.put_at.new.places.items c.leave.new.places.items
     puts c.get-before.ensures.rising risen c.get-before.ensures.tick (rw (← c.place_of-place.ensures.place) c.leave.ensures.places) c.leave.ensures.len)
+
+pub returns-clause-ticks : goal.returns-clause-ticks
+returns-clause-ticks c = rw (c.in_default.ensures.ok, ← c.self.view_is) (λ q. tick_of-put q c.args.key c.args.at c.self.inside.ticks)
