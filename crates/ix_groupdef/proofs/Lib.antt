@@ -16,3 +16,5 @@ pub mod Parts
 pub mod SentLaws
 pub mod Fronts
 pub mod Telling
+pub mod StrayParts
+pub mod Quiet

@@ -14,3 +14,4 @@ pub mod Alone
 pub mod Cycles
 pub mod Answered
 pub mod Told
+pub mod StrayFrames
