@@ -1,0 +1,6 @@
+use Rattle.std.proofs.Common.{◌≡◌, drop}
+use Rattle.ix_wire.specs.Progress.{with_plan}
+use Rattle.ix_wire.proofs.progress.Progress.carry_out.Given as goal
+
+abbrev pub invariant-loop-one : goal.invariant-loop-one
+invariant-loop-one l = with_plan l.number l.width (drop l.one-index l.plan) l.self ≡ with_plan l.number l.width l.plan l.fn.self

@@ -1,0 +1,9 @@
+pub mod Chain
+pub mod Command
+pub mod Kind
+pub mod Progress
+pub mod Records
+pub mod Script
+pub mod Table
+pub mod Text
+pub mod Wire

@@ -1,0 +1,49 @@
+-- The wire list of a script, or its first faulty line. Formats: docs/SCRIPT.md.
+use Rattle.std.specs.Prelude.{◌≡◌, ℕ, ◌+◌, ◌==◌, Bool, false, List, [], ◌∷◌, if◌then◌else◌, Option, Some, None, Result, Ok, Err}
+use Rattle.ix_wire.specs.declared.command.Version.TheVariants.{One}
+use Rattle.ix_wire.specs.declared.entry.Entry.{Entry}
+use Rattle.ix_wire.specs.declared.fault.ScriptFault.{ScriptFault}
+use Rattle.ix_wire.specs.declared.fault.ScriptFault.TheVariants as faults
+use Rattle.ix_wire.specs.declared.fault.ScriptKind.{ScriptKind}
+use Rattle.ix_wire.specs.declared.fault.ScriptKind.TheVariants as kinds
+use Rattle.ix_wire.specs.declared.progress.Progress.{Progress}
+use Rattle.ix_wire.specs.Progress.{line_run}
+use Rattle.ix_wire.specs.Table.{earliest, opening_table}
+use Rattle.ix_wire.specs.Text.{lines_of}
+use Rattle.ix_wire.specs.Wire.{settled, start}
+
+-- what there is before the first line
+unfoldable pub opening : ℕ → ℕ → ℕ → Progress
+opening pace cores live =
+    record { wire = start pace; table = opening_table cores live; clock = 0; version = One; begun = false }
+
+-- the entries with the settle at the end, or the line of the first tag that has no move
+abbrev pub entries_unless : Option ℕ → List Entry → Result (List Entry) ScriptFault
+entries_unless None entries = Ok entries
+entries_unless (Some line) entries = Err (faults.At line kinds.LeftTagged)
+
+unfoldable pub finish : Progress → Result (List Entry) ScriptFault
+finish p = entries_unless (earliest p.table.tags) (settled p.wire).entries
+
+-- goes on behind a line, or names it
+abbrev pub behind : ℕ → Result Progress ScriptKind → (Progress → Result (List Entry) ScriptFault) → Result (List Entry) ScriptFault
+behind number (Ok p) rest = rest p
+behind number (Err kind) rest = Err (faults.At number kind)
+
+-- the entries of these lines and of what came before them, which had so many lines
+abbrev pub lines_run : List Bool → ℕ → Progress → List (List ℕ) → Result (List Entry) ScriptFault
+lines_run own number p [] = finish p
+lines_run own number p (line ∷ lines) =
+    if number == 65536 then Err (faults.At (number + 1) kinds.TooMany)
+    else behind (number + 1) (line_run own (number + 1) line p) (λ next. lines_run own (number + 1) next lines)
+
+-- the wire list of a script for a play with this pace, on so many cores, so many of them live at the start, over records of which some are
+-- the local side's own
+unfoldable pub wire_of : ℕ → ℕ → ℕ → List Bool → List ℕ → Result (List Entry) ScriptFault
+wire_of pace cores live own bytes = lines_run own 0 (opening pace cores live) (lines_of bytes)
+
+-- a reader answered the meaning, where `view` is the list of entries in its answer, or that memory ran out
+abbrev pub Gives : {A : Type 0} → (A → List Entry) → Result A ScriptFault → Result (List Entry) ScriptFault → Type 0
+Gives view (Ok answer) meaning = meaning ≡ Ok (view answer)
+Gives view (Err (faults.At line kind)) meaning = meaning ≡ Err (faults.At line kind)
+Gives view (Err faults.NoMemory) meaning = Unit {0}
