@@ -5,3 +5,4 @@ pub mod Joined
 pub mod Places
 pub mod Each
 pub mod Home
+pub mod Lends

@@ -1,10 +1,10 @@
 -- What the calls make of a group.
-use Rattle.std.specs.Prelude.{ℕ, ◌==◌, Bool, false, not, ◌&&◌, ◌||◌, if◌then◌else◌, nat_lt, List, [], ◌∷◌, ◌++◌, Option, Some, None, is_some, is_none}
+use Rattle.std.specs.Prelude.{◌≡◌, ◌<◌, ℕ, ◌==◌, Bool, true, false, not, ◌&&◌, ◌||◌, if◌then◌else◌, nat_lt, List, [], ◌∷◌, ◌++◌, Option, Some, None, is_some, is_none, length, slice_index_or, slice_set}
 use Rattle.ix_base.specs.declared.id.CoreId.{CoreId}
 use Rattle.ix_desk.specs.declared.unit.DeskItem.{DeskItem}
 use Rattle.ix_desk.specs.declared.unit.DeskItem.TheVariants.{Work, Tag, Cut, Start}
 use Rattle.ix_desk.specs.Views.{Piece, CutPiece, Arrival, Group}
-use Rattle.ix_desk.specs.Pieces.{begun, with_item, with_tag, with_arrival, awaits, without_unit, is_done, piece_waits, joined}
+use Rattle.ix_desk.specs.Pieces.{begun, with_item, with_tag, with_arrival, awaits, without_unit, with_unit, is_done, piece_waits, joined}
 
 module _ {U I : Type 0} where
   abbrev pub is_untagged : Option (Piece U I) → Bool
@@ -107,6 +107,31 @@ module _ {U I : Type 0} where
     last = g.last;
   }
 
+  -- a piece that is not there
+  abbrev pub no_piece : CutPiece U I
+  no_piece = record { to = 0; piece = begun 0 None }
+
+  abbrev pub cut_piece_with : CutPiece U I → U → CutPiece U I
+  cut_piece_with c u = record { to = c.to; piece = with_unit c.piece u }
+
+  abbrev pub cut_with : List (CutPiece U I) → U → List (CutPiece U I)
+  cut_with [] u = []
+  cut_with (c ∷ cs) u = if is_some c.piece.unit then cut_piece_with c u ∷ cs else c ∷ cut_with cs u
+
+  abbrev pub current_with : Option (Piece U I) → U → Option (Piece U I)
+  current_with None u = None
+  current_with (Some p) u = Some (with_unit p u)
+
+  -- a group whose unit was changed in its place
+  unfoldable pub changed : Group U I → U → Group U I
+  changed g u = record {
+    cut = cut_with g.cut u;
+    current = if is_some (cut_unit g.cut) then g.current else current_with g.current u;
+    early = g.early;
+    arrived = g.arrived;
+    last = g.last;
+  }
+
   -- the oldest piece that was cut and is done
   abbrev pub done_of : List (CutPiece U I) → Option (CutPiece U I)
   done_of [] = None
@@ -141,3 +166,10 @@ module _ {U I : Type 0} where
   -- the unit is at home here: its first piece has tenure 0
   abbrev pub at_home : U → Group U I
   at_home u = record { cut = []; current = Some (record { tenure = 0; tagged = false; unit = Some u; remote = []; local = []; behind = [] }); early = []; arrived = []; last = 0 }
+
+-- the oldest piece that was cut and has its unit stands at this place
+pub record HasUnitAt {U I : Type 0} (cut : List (CutPiece U I)) (i : ℕ) : Type 0 where
+  pub within : i < length cut
+  pub here : is_some (slice_index_or cut i no_piece).piece.unit ≡ true
+  pub unit : cut_unit cut ≡ (slice_index_or cut i no_piece).piece.unit
+  pub with : (u : U) → cut_with cut u ≡ slice_set cut i (cut_piece_with (slice_index_or cut i no_piece) u)

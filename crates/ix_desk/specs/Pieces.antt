@@ -49,6 +49,10 @@ module _ {U I : Type 0} where
   abbrev pub without_unit : Piece U I → Piece U I
   without_unit p = record { tenure = p.tenure; tagged = p.tagged; unit = None; remote = p.remote; local = p.local; behind = p.behind }
 
+  -- its unit in its place, with another value
+  abbrev pub with_unit : Piece U I → U → Piece U I
+  with_unit p u = record { tenure = p.tenure; tagged = p.tagged; unit = Some u; remote = p.remote; local = p.local; behind = p.behind }
+
   -- the unit is here, and all that was to be stepped is
   abbrev pub is_done : Piece U I → Bool
   is_done p = is_some p.unit && (is_nil p.remote && is_nil p.local)

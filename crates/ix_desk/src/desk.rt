@@ -31,7 +31,10 @@ impl<U, I> Model for Desk<U, I> {
 impl<U: Drop, I: Drop> Desk<U, I> {
     ghost use Rattle.std.specs.Prelude.{◌≡◌, ◌+◌, ◌<◌, ◌++◌, ◌∷◌, [], ℕ, true, false, length, is_some, Option, Some, None, OnOk, IfOk, IfErr, slice_get};
     ghost use Rattle.std.specs.Option.{option_copied};
-    ghost use Rattle.ix_desk.specs.Pieces.{begun, with_item, with_tag, with_arrival, awaits, without_unit, is_done, piece_waits};
+    ghost use Rattle.ix_desk.specs.Pieces.{begun, with_item, with_tag, with_arrival, awaits, without_unit, with_unit, is_done, piece_waits};
+    ghost use Rattle.std.specs.Option.{option_copied_mut};
+    ghost use Rattle.std.specs.Borrow.{LendsIf, sem};
+    ghost use Rattle.ix_desk.specs.contracts.desk.Desk.{the_row};
 
     /// The desk of a piece that begins, whose unit hasn't come.
     pub fn new(alloc: Global, tenure: u32) -> Desk<U, I>
@@ -114,6 +117,13 @@ impl<U: Drop, I: Drop> Desk<U, I> {
         ensures { option_copied result ≡ self.now.unit }
     {
         self.unit.as_ref()
+    }
+
+    pub fn unit_mut(&mut self) -> Option<&mut U>
+        ensures* writes_back { sem 𝓛 (LendsIf (the_row U.row I.row) U.row self.entry result (with_unit self.old) self.old) }
+        ensures value { option_copied_mut result ≡ self.old.unit }
+    {
+        self.unit.as_mut()
     }
 
     pub fn take_unit(&mut self) -> Option<U>

@@ -2,7 +2,7 @@
 ghost use Rattle.std.specs.Prelude.{◌≡◌, ◌<◌, ◌-◌, ◌≤◌, ◌++◌, [], ◌∷◌, ℕ, true, false, All, AllPairs, OnOk, OnErr, IfOk, IfErr, IfSome, IfNone, IsErr, IsNone, Some, Option, slice_get, length, MatchOption};
 ghost use Rattle.std.specs.Option.{option_copied};
 ghost use Rattle.ix_desk.specs.Views.{Piece, CutPiece};
-ghost use Rattle.ix_desk.specs.Groups.{taken, landed, unit_of, untaken, done_of, shipped, waits};
+ghost use Rattle.ix_desk.specs.Groups.{taken, landed, unit_of, untaken, changed, done_of, shipped, waits};
 ghost use Rattle.ix_desk.specs.Steps.{leave, group_leaves, AllWorked};
 ghost use Rattle.ix_desk.specs.Desks.{group_at, with_group, fits_at, welcome_at, groups_wait, opened, Ships, NothingDone};
 
@@ -39,6 +39,10 @@ impl<U: Unit> Model for Desks<U> {
 }
 
 impl<U: Unit> Desks<U> {
+    ghost use Rattle.std.specs.Option.{option_copied_mut};
+    ghost use Rattle.std.specs.Borrow.{LendsIf, sem};
+    ghost use Rattle.ix_desk.specs.contracts.desks.Desks.{the_row};
+
     /// Whether this item comes next for this group, by the order of a ring.
     pub fn fits(&self, g: GroupId, it: &DeskItem<U::Item>) -> bool
         ensures { result ≡ fits_at self.now g.0 it.now }
@@ -119,6 +123,27 @@ impl<U: Unit> Desks<U> {
         }
         let group = &self.groups[place];
         group.unit()
+    }
+
+    /// The unit of a group, to be changed in its place, if it is here. What is written there stays; every other group stays as it is.
+    pub fn unit_mut(&mut self, g: GroupId) -> Option<&mut U>
+        ensures* writes_back { sem 𝓛 (LendsIf (the_row U.row U.Item.row U.Env.row U.Unit) U.row self.entry result (λ u. with_group self.old g.0 (changed (group_at self.old g.0) u)) self.old) }
+        ensures value { option_copied_mut result ≡ unit_of (group_at self.old g.0) }
+    {
+        let place = usize::from(g.0);
+        if place >= self.groups.len() {
+            return None;
+        }
+        self.unit_mut_at(place)
+    }
+
+    fn unit_mut_at(&mut self, place: usize) -> Option<&mut U>
+        requires { place < 512 }
+        ensures* writes_back { sem 𝓛 (LendsIf (the_row U.row U.Item.row U.Env.row U.Unit) U.row self.entry result (λ u. with_group self.old place (changed (group_at self.old place) u)) (with_group self.old place (group_at self.old place))) }
+        ensures value { option_copied_mut result ≡ unit_of (group_at self.old place) }
+    {
+        let group = &mut self.groups[place];
+        group.unit_mut()
     }
 
     /// Takes away the unit of a group, if it is here and no item of the group waits.

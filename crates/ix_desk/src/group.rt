@@ -1,7 +1,7 @@
 // The desks of one group on this core.
-ghost use Rattle.std.specs.Prelude.{◌≡◌, ◌+◌, true, false, length, Some, IfSome, IfNone, IfOk, IfErr, slice_get};
+ghost use Rattle.std.specs.Prelude.{◌≡◌, ◌+◌, true, false, is_some, length, Some, IfSome, IfNone, IfOk, IfErr, slice_get};
 ghost use Rattle.std.specs.Option.{option_copied};
-ghost use Rattle.ix_desk.specs.Groups.{arrival_of, arrivals_but, cut_awaits, cut_seated, current_awaits, current_seated, cut_unit, cut_untaken, done_of, cut_but_done, cut_waits, current_waits, early_waits};
+ghost use Rattle.ix_desk.specs.Groups.{arrival_of, arrivals_but, cut_awaits, cut_seated, current_awaits, current_seated, cut_unit, cut_untaken, cut_with, HasUnitAt, done_of, cut_but_done, cut_waits, current_waits, early_waits};
 
 use crate::desk::Desk;
 use crate::tenures::Tenures;
@@ -67,7 +67,11 @@ impl<U: Drop, I: Drop> GroupDesks<U, I> {
     ghost use Rattle.std.specs.Option.{option_copied};
     ghost use Rattle.ix_desk.specs.declared.unit.DeskItem.TheVariants.{Work, Tag, Cut, Start};
     ghost use Rattle.ix_desk.specs.Tenures.{has_arrived};
-    ghost use Rattle.ix_desk.specs.Groups.{fits, taken, landed, unit_of, untaken, done_of, shipped, waits, empty, at_home};
+    ghost use Rattle.ix_desk.specs.Groups.{fits, taken, landed, unit_of, untaken, changed, current_unit, current_with, cut_piece_with, no_piece, done_of, shipped, waits, empty, at_home};
+    ghost use Rattle.std.specs.Prelude.{◌<◌, slice_set, slice_index_or};
+    ghost use Rattle.std.specs.Option.{option_copied_mut};
+    ghost use Rattle.std.specs.Borrow.{LendsIf, sem};
+    ghost use Rattle.ix_desk.specs.contracts.group.GroupDesks.{the_row};
 
     pub fn new(alloc: Global) -> GroupDesks<U, I>
         ensures { result ≡ empty }
@@ -238,6 +242,34 @@ impl<U: Drop, I: Drop> GroupDesks<U, I> {
         }
     }
 
+    /// The unit that is here, to be changed in its place.
+    #[tactic(auto, unfolding(crate::specs::Groups::changed))]
+    pub fn unit_mut(&mut self) -> Option<&mut U>
+        ensures* writes_back { sem 𝓛 (LendsIf (the_row U.row I.row) U.row self.entry result (changed self.old) self.old) }
+        ensures value { option_copied_mut result ≡ unit_of self.old }
+    {
+        match place_of_unit(self.cut.as_slice()) {
+            Some(place) => self.cut_unit_mut(place),
+            None => self.current_unit_mut(),
+        }
+    }
+
+    fn cut_unit_mut(&mut self, place: usize) -> Option<&mut U>
+        requires { place < length self.old.cut }
+        ensures* writes_back { sem 𝓛 (LendsIf (the_row U.row I.row) U.row self.entry result (λ u. record self.old { cut = slice_set self.old.cut place (cut_piece_with (slice_index_or self.old.cut place no_piece) u) }) (record self.old { cut = slice_set self.old.cut place (slice_index_or self.old.cut place no_piece) })) }
+        ensures value { option_copied_mut result ≡ (slice_index_or self.old.cut place no_piece).piece.unit }
+    {
+        let here = &mut self.cut[place];
+        here.unit_mut()
+    }
+
+    fn current_unit_mut(&mut self) -> Option<&mut U>
+        ensures* writes_back { sem 𝓛 (LendsIf (the_row U.row I.row) U.row self.entry result (λ u. record self.old { current = current_with self.old.current u }) self.old) }
+        ensures value { option_copied_mut result ≡ current_unit self.old.current }
+    {
+        self.current.as_mut()?.unit_mut()
+    }
+
     /// Takes away the unit that is here.
     pub fn take_unit(&mut self) -> Option<U>
         ensures unit { result ≡ unit_of self.old }
@@ -280,6 +312,18 @@ impl<U: Drop, I: Drop> GroupDesks<U, I> {
 
 impl<U: Drop, I: Drop> CutDesk<U, I> {
     ghost use Rattle.std.specs.Prelude.{◌≡◌, ◌+◌};
+    ghost use Rattle.std.specs.Option.{option_copied_mut};
+    ghost use Rattle.std.specs.Borrow.{LendsIf, sem};
+    ghost use Rattle.ix_desk.specs.Groups.{cut_piece_with};
+    ghost use Rattle.ix_desk.specs.contracts.group.CutDesk.{the_row};
+
+    /// The unit of its desk, to be changed in its place.
+    pub fn unit_mut(&mut self) -> Option<&mut U>
+        ensures* writes_back { sem 𝓛 (LendsIf (the_row U.row I.row) U.row self.entry result (cut_piece_with self.old) self.old) }
+        ensures value { option_copied_mut result ≡ self.old.piece.unit }
+    {
+        self.desk.unit_mut()
+    }
 
     /// Takes it apart: where the unit goes, the number of its next tenure, the unit, and the items behind the tag.
     pub fn into_parts(self) -> (CoreId, u32, Option<U>, List<I>)
@@ -427,6 +471,20 @@ fn find_cut_unit<'a, U: Drop, I: Drop>(cut: &'a [CutDesk<U, I>]) -> Option<&'a U
     for here in cut {
         if here.desk.has_unit() {
             return here.desk.unit();
+        }
+    }
+    None
+}
+
+// The place of the oldest piece that was cut and has its unit.
+fn place_of_unit<U: Drop, I: Drop>(cut: &[CutDesk<U, I>]) -> Option<usize>
+    ensures some { IfSome result (HasUnitAt cut.now) }
+    ensures none { IfNone result ((is_some (cut_unit cut.now) ≡ false) × ((u : U) → cut_with cut.now u ≡ cut.now)) }
+{
+    for place in 0..cut.len() {
+        let here = &cut[place];
+        if here.desk.has_unit() {
+            return Some(place);
         }
     }
     None

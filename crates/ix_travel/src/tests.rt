@@ -2,6 +2,7 @@ use super::*;
 use ix_base::{CoreId, GroupId, List, NoMemory};
 use ix_desk::{DeskItem, Desks, Shipment};
 use std::alloc::Global;
+use std::collections::VecDeque;
 use std::process::Abort;
 use std::test::Fail;
 
@@ -113,6 +114,52 @@ fn two_moves_before_a_frame(rt: HostRuntime) -> Result<(), Fail> {
 }
 
 #[test]
+fn conditions_are_told(rt: HostRuntime) -> Result<(), Fail> {
+    let alloc = rt.alloc();
+    let mut desks = away(alloc, 1)?;
+    for (tenure, to, welcome) in [
+        (1, 1, true),
+        (1, 1, false),
+        (0, 1, false),
+        (3, 0, false),
+        (3, 1, true),
+        (2, 1, true),
+    ] {
+        let s = Shipment {
+            group: GROUP,
+            tenure,
+            to: CoreId(to),
+            unit: new_tally(alloc, 0),
+            queue: List::new(alloc),
+        };
+        assert_eq!(rt; desks.welcomes(&s), welcome, "tenure {tenure} to {to}");
+        if desks.welcomes(&s) {
+            assert!(rt; desks.arrive(s).is_ok());
+        }
+    }
+    assert!(rt; !desks.fits(GROUP, &DeskItem::Work(Thing::Frame(0))));
+    assert!(rt; !desks.fits(GROUP, &DeskItem::Tag));
+    assert!(rt; !desks.fits(GROUP, &DeskItem::Start { tenure: 0 }));
+    assert!(rt; !desks.fits(GROUP, &DeskItem::Start { tenure: u32::MAX }));
+    assert!(rt; !desks.fits(GroupId(512), &DeskItem::Start { tenure: 1 }));
+    take(&rt, &mut desks, DeskItem::Start { tenure: 1 })?;
+    assert!(rt;
+        !desks.fits(GROUP, &DeskItem::Cut { to: CoreId(0) }),
+        "before its tag"
+    );
+    assert!(rt;
+        !desks.fits(GROUP, &DeskItem::Start { tenure: 2 }),
+        "before its cut"
+    );
+    take(&rt, &mut desks, DeskItem::Tag)?;
+    assert!(rt; !desks.fits(GROUP, &DeskItem::Tag));
+    take(&rt, &mut desks, DeskItem::Cut { to: CoreId(0) })?;
+    assert!(rt; !desks.fits(GROUP, &DeskItem::Start { tenure: 1 }), "again");
+    assert!(rt; desks.fits(GROUP, &DeskItem::Start { tenure: 2 }));
+    Ok(())
+}
+
+#[test]
 fn no_memory_at_the_second_step(rt: HostRuntime) -> Result<(), Fail> {
     let alloc = rt.alloc();
     let mut desks = home(alloc, 2)?;
@@ -138,6 +185,197 @@ fn no_memory_at_the_second_step(rt: HostRuntime) -> Result<(), Fail> {
     };
     if desks.welcomes(&s) {
         assert!(rt; desks.arrive(s).is_err());
+    }
+    Ok(())
+}
+
+#[test]
+fn a_unit_is_changed_in_its_place(rt: HostRuntime) -> Result<(), Fail> {
+    let mut desks = home(rt.alloc(), 0)?;
+    assert!(rt; desks.unit(GROUP).is_some());
+    assert!(rt; desks.unit(GroupId(121)).is_none());
+    assert!(rt; desks.unit_mut(GroupId(121)).is_none());
+    match desks.unit_mut(GROUP) {
+        Some(unit) => unit.fails_at = 1,
+        None => assert!(rt; false, "the unit is at home here"),
+    }
+    take(&rt, &mut desks, DeskItem::Work(Thing::Frame(0)))?;
+    assert_eq!(rt; desks.work(&(), 64), Err(NoMemory), "by its new number");
+    Ok(())
+}
+
+// A core: its desks, its ring, and the shipments on their way to it.
+#[derive(Drop)]
+struct Core {
+    desks: Desks<Tally>,
+    ring: VecDeque<DeskItem<Thing>>,
+    mesh: VecDeque<Shipment<Tally>>,
+}
+
+// The wire list so far: where the group is, and who is to step what.
+#[derive(Drop)]
+struct Wire {
+    core: u8,
+    tenure: u32,
+    tagged: bool,
+    next: u32,
+    behind: Vec<u32>,
+    wanted: Vec<(u32, u8)>,
+}
+
+// Puts an item on the ring of a core.
+fn put_on(
+    core: u8,
+    left: &mut Core,
+    right: &mut Core,
+    it: DeskItem<Thing>,
+) -> Result<(), NoMemory> {
+    if core == 0 {
+        left.ring.push_back(it)?;
+    } else {
+        right.ring.push_back(it)?;
+    }
+    Ok(())
+}
+
+// Puts an entry on the rings: a frame, a time, or the next tag or move.
+fn put(wire: &mut Wire, draw: u64, left: &mut Core, right: &mut Core) -> Result<(), NoMemory> {
+    let w = wire.next;
+    wire.next = w.wrapping_add(1);
+    let from = wire.core;
+    if draw < 5 {
+        let item = if draw < 4 {
+            Thing::Frame(w)
+        } else {
+            Thing::Time(w)
+        };
+        if wire.tagged {
+            wire.behind.push(w)?;
+        } else {
+            wire.wanted.push((w, from))?;
+        }
+        return put_on(from, left, right, DeskItem::Work(item));
+    }
+    if !wire.tagged {
+        wire.tagged = true;
+        return put_on(from, left, right, DeskItem::Tag);
+    }
+    let to = if from == 0 { 1 } else { 0 };
+    put_on(from, left, right, DeskItem::Cut { to: CoreId(to) })?;
+    moved(wire, to)?;
+    put_on(
+        to,
+        left,
+        right,
+        DeskItem::Start {
+            tenure: wire.tenure,
+        },
+    )
+}
+
+// What stood behind the tag is for the core that the group is moved to.
+fn moved(wire: &mut Wire, to: u8) -> Result<(), NoMemory> {
+    for w in &wire.behind {
+        wire.wanted.push((*w, to))?;
+    }
+    wire.behind.clear();
+    wire.tagged = false;
+    wire.core = to;
+    wire.tenure = wire.tenure.wrapping_add(1);
+    Ok(())
+}
+
+// One core takes an item, or a shipment, or works, or ships.
+fn turn<R: Abort>(rt: &R, draw: u64, core: &mut Core, other: &mut Core) -> Result<(), NoMemory> {
+    if draw < 3 {
+        if let Some(it) = core.ring.pop_front() {
+            take(rt, &mut core.desks, it)?;
+        }
+    } else if draw < 5 {
+        if let Some(s) = core.mesh.pop_front() {
+            land(rt, &mut core.desks, s)?;
+        }
+    } else if draw < 7 {
+        core.desks.work(&(), (draw - 4) as usize)?;
+    } else if let Some(s) = core.desks.ship() {
+        other.mesh.push_back(s)?;
+    }
+    Ok(())
+}
+
+// A core takes all that there is, works and ships. Tells whether it shipped.
+fn finish<R: Abort>(rt: &R, core: &mut Core, other: &mut Core) -> Result<bool, NoMemory> {
+    for _ in 0..core.ring.len() {
+        if let Some(it) = core.ring.pop_front() {
+            take(rt, &mut core.desks, it)?;
+        }
+    }
+    for _ in 0..core.mesh.len() {
+        if let Some(s) = core.mesh.pop_front() {
+            land(rt, &mut core.desks, s)?;
+        }
+    }
+    core.desks.work(&(), 64)?;
+    let Some(s) = core.desks.ship() else {
+        return Ok(false);
+    };
+    other.mesh.push_back(s)?;
+    Ok(true)
+}
+
+fn schedule<R: Abort>(rt: &R, alloc: Global, seed: u64) -> Result<(), NoMemory> {
+    let mut left = Core {
+        desks: home(alloc, 0)?,
+        ring: VecDeque::new(alloc),
+        mesh: VecDeque::new(alloc),
+    };
+    let mut right = Core {
+        desks: away(alloc, 1)?,
+        ring: VecDeque::new(alloc),
+        mesh: VecDeque::new(alloc),
+    };
+    let mut wire = Wire {
+        core: 0,
+        tenure: 0,
+        tagged: false,
+        next: 0,
+        behind: Vec::new(alloc),
+        wanted: Vec::new(alloc),
+    };
+    let mut state = seed;
+    for _ in 0..72 {
+        state = state
+            .wrapping_mul(6_364_136_223_846_793_005)
+            .wrapping_add(1_442_695_040_888_963_407);
+        let draw = (state >> 33) % 24;
+        if draw < 8 {
+            put(&mut wire, draw, &mut left, &mut right)?;
+        } else if draw < 16 {
+            turn(rt, draw - 8, &mut left, &mut right)?;
+        } else {
+            turn(rt, draw - 16, &mut right, &mut left)?;
+        }
+    }
+    // what is left is done by turns: a shipment is under way for at most one round
+    for _ in 0..64 {
+        let first = finish(rt, &mut left, &mut right)?;
+        let second = finish(rt, &mut right, &mut left)?;
+        if !first && !second {
+            break;
+        }
+    }
+    if wire.core == 0 {
+        expect_seen(rt, &left.desks, wire.wanted.as_slice());
+    } else {
+        expect_seen(rt, &right.desks, wire.wanted.as_slice());
+    }
+    Ok(())
+}
+
+#[test]
+fn a_thousand_schedules(rt: HostRuntime) -> Result<(), Fail> {
+    for seed in 0..1000 {
+        schedule(&rt, rt.alloc(), seed)?;
     }
     Ok(())
 }

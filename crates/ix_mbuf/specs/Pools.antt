@@ -1,0 +1,33 @@
+-- What contracts see of a pool, and what it keeps.
+use Rattle.std.specs.Prelude.{◌≡◌, ◌≤◌, ◌<◌, ◌+◌, ◌^◌, ◌==◌, ◌&&◌, nat_lt, not, zero, suc, ◌++◌, ℕ, Bool, true, List, [], ◌∷◌, length, count_by, slice_index_or, if◌then◌else◌}
+use Rattle.ix_base.specs.declared.id.BufId.{BufId}
+use Rattle.ix_base.specs.declared.id.CoreId.{CoreId}
+use Rattle.ix_mbuf.specs.Owners.{times, at_home}
+
+-- a pool: its core, the number of its buffers, and those that are free
+pub record Stock : Type 0 where
+  pub home : CoreId
+  pub n : ℕ
+  pub free : List BufId
+
+-- The buffer is one of the pool's, and not free.
+abbrev pub is_out_of : Stock → BufId → Bool
+is_out_of p id = id.home.0 == p.home.0 && (nat_lt id.slot p.n && times id p.free == 0)
+
+-- The slot of this buffer is one of the pool's, and its flag is down.
+abbrev pub is_in : CoreId → List Bool → BufId → Bool
+is_in home out id = id.home.0 == home.0 && not (slice_index_or out id.slot true)
+
+-- Free and given-out buffers are together those of the slots, each once.
+pub record FreeAndOut (home : CoreId) (out : List Bool) (free : List BufId) (capacity : ℕ) : Type 0 where
+  -- a buffer stands among the free ones once where its flag is down, and else never
+  pub each : (id : BufId) → times id free ≡ (if is_in home out id then 1 else 0)
+  pub homes : at_home home.0 free ≡ length free
+  pub count : length free + count_by (λ b. b) out ≡ length out
+  pub room : length out ≤ capacity
+  pub small : capacity < 2 ^ 32
+
+-- all buffers of a core, by rising slot
+abbrev pub all_ids : CoreId → ℕ → List BufId
+all_ids home zero = []
+all_ids home (suc n) = all_ids home n ++ record { home = home; slot = n } ∷ []
