@@ -1,5 +1,9 @@
+pub mod ClassLaws
 pub mod CommandLaws
+pub mod CommandRanges
+pub mod Effects
 pub mod ProgressLaws
+pub mod PutLaws
 pub mod RecordLaws
 pub mod TableLaws
 pub mod TextLaws

@@ -1,4 +1,5 @@
 pub mod Chain
+pub mod Classes
 pub mod Command
 pub mod Kind
 pub mod Progress
