@@ -13,14 +13,10 @@ use Rattle.ix_conf.specs.declared.keys.ConfFault.TheVariants as conf
 use Rattle.ix_conf.specs.declared.settings.Conf.{Conf}
 use Rattle.ix_conf.specs.Settings.{Settings, settings_of}
 use Rattle.ix_conf.specs.Value.{Gives as Gives-conf}
-use Rattle.ix_wire.specs.declared.entry.Entry.{Entry}
-use Rattle.ix_wire.specs.declared.fault.ScriptFault.{ScriptFault}
-use Rattle.ix_wire.specs.declared.fault.ScriptFault.TheVariants as script
-use Rattle.ix_wire.specs.Script.{Gives as Gives-script}
-use Rattle.ix_top.specs.Status.{capture_refusal, conf_refusal, script_refusal}
+use Rattle.ix_top.specs.Status.{capture_refusal, conf_refusal}
 use Rattle.ix_top.specs.declared.status.Status.TheVariants.{Unbuilt}
 use Rattle.ix_top.specs.declared.status.Unbuilt.TheVariants as unbuilt
-use Rattle.ix_top.specs.Top.{two_frames, frames_read, settings_read, entries_read, Refuses}
+use Rattle.ix_top.specs.Top.{two_frames, frames_read, settings_read, Refuses}
 
 pub two_frames-few : (mac bytes : List ℕ) (spans : List Span) → length spans < 2 → two_frames mac (frames_of bytes spans) ≡ Err (Unbuilt unbuilt.Capture)
 two_frames-few mac bytes [] few = refl
@@ -52,12 +48,6 @@ Refuses-capture bytes BadLink m is = rw is refl
 Refuses-capture bytes TooManyRecords m is = rw is refl
 Refuses-capture bytes (CutRecord at) m is = rw is refl
 Refuses-capture bytes NoMemory m is = tt
-
--- The status of a refused script has its cause.
-pub Refuses-script : (fault : ScriptFault) (m : Result (List Entry) ScriptFault)
-    → Gives-script {A = List Entry} (λ entries. entries) (Err fault) m → Refuses (script_refusal fault) (entries_read m)
-Refuses-script (script.At line kind) m is = rw is refl
-Refuses-script script.NoMemory m is = tt
 
 pub IfOk-map : {A E : Type 0} {P Q : A → Type 0} (r : Result A E) → ((x : A) → P x → Q x) → IfOk r P → IfOk r Q
 IfOk-map (Ok x) f p = f x p

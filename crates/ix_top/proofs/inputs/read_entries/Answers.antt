@@ -1,4 +1,4 @@
-use Rattle.std.proofs.Common.{◌≡◌, List, map, ℕ, sym, ◌∙◌, subst, arith}
+use Rattle.std.proofs.Common.{List, map, ℕ, sym, ◌∙◌, subst, arith}
 use Rattle.std.proofs.lemmas.Grind.{common_steps}
 use Rattle.std.specs.Prelude.{Result, Err}
 use Rattle.ix_top.specs.declared.status.Status.{Status}
