@@ -1,5 +1,5 @@
 -- The handshake that two frames make, and what it writes.
-use Rattle.std.specs.Prelude.{ℕ, ◌+◌, ◌-◌, ◌*◌, ◌/◌, ◌%◌, ◌^◌, min, max, List, [], ◌∷◌, ◌++◌, length, codes, Bool, true, false, ◌&&◌, ◌==◌, nat_lt, if◌then◌else◌, Result, Ok, Err, Option, Some, None, unwrap_or}
+use Rattle.std.specs.Prelude.{ℕ, ◌+◌, ◌-◌, ◌*◌, ◌/◌, ◌%◌, ◌^◌, min, max, List, [], ◌∷◌, ◌++◌, length, codes, Bool, false, ◌&&◌, ◌==◌, nat_lt, if◌then◌else◌, Result, Ok, Err, Option, Some, None, unwrap_or}
 use Rattle.std.specs.Fmt.{decimal, digits, padded_integral, format_spec}
 use Rattle.ix_base.specs.declared.id.Flow.{Flow}
 use Rattle.ix_base.specs.declared.segment.Seg.{Seg}

@@ -1,8 +1,8 @@
 use Rattle.std.proofs.Common.{arith}
 use Rattle.std.proofs.lemmas.Grind.{common_steps}
 use Rattle.ix_top.proofs.Meanings.{two_frames-few, two_frames-many}
-use Rattle.ix_top.proofs.inputs.take_frames.Goals.{in_default-via-then-spans-lt2, in_default-via-else-spans-lt2+else-this-lt3}
-use Rattle.ix_top.proofs.inputs.take_frames.Goals as goal
+use Rattle.ix_top.proofs.records.take_frames.Goals.{in_default-via-then-spans-lt2, in_default-via-else-spans-lt2+else-this-lt3}
+use Rattle.ix_top.proofs.records.take_frames.Goals as goal
 
 pub returns-in_default-clause-err : goal.returns-in_default-clause-err
 returns-in_default-clause-err c = elim c.in_default.branch [
