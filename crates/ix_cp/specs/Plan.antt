@@ -59,6 +59,11 @@ due live at = due_between at (busiest at live 8) (idlest at live 8)
 abbrev pub moved : PlanMove → List CoreId → List CoreId
 moved m at = slice_set at m.group.0 m.to
 
+-- the places after moves
+abbrev pub carried : List PlanMove → List CoreId → List CoreId
+carried [] at = at
+carried (m ∷ moves) at = carried moves (moved m at)
+
 -- a move, if there is one, and the moves behind it
 abbrev pub go_on : Option PlanMove → (PlanMove → List PlanMove) → List PlanMove
 go_on None rest = []

@@ -1,6 +1,6 @@
 // Plans: lists of moves that spread the places over the live cores.
-ghost use Rattle.std.specs.Prelude.{◌≡◌, ◌≤◌, ◌<◌, All, IfOk, false, length, slice_set, true};
-ghost use Rattle.ix_cp.specs.Plan.{IsMoveTo, add_plan, evening_moves, leaving_moves, revoke_plan};
+ghost use Rattle.std.specs.Prelude.{◌≡◌, ◌≤◌, ◌<◌, All, IfOk, None, false, length, slice_set, true};
+ghost use Rattle.ix_cp.specs.Plan.{IsMoveTo, add_plan, carried, due, evening_moves, leaving_moves, revoke_plan};
 
 use crate::cores::Cores;
 use crate::places::Places;
@@ -27,6 +27,7 @@ pub fn plan_add(
     requires places { length at.now ≤ 512 }
     requires core { core.0 < 8 }
     ensures plan { IfOk result (λ moves. moves.items ≡ add_plan cores.now.live core.0 at.now) }
+    ensures even { IfOk result (λ moves. due (slice_set cores.now.live core.0 true) (carried moves.items at.now) ≡ None) }
     ensures moves { IfOk result (λ moves. All (IsMoveTo (slice_set cores.now.live core.0 true) (length at.now)) moves.items) }
 {
     let mut live = cores.live;

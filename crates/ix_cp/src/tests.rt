@@ -1,4 +1,5 @@
 // What no clause says: plans from outside, and that memory is enough.
+ghost use Rattle.std.specs.Prelude.{◌<◌};
 
 use crate::{Cores, plan_add, plan_revoke};
 use ix_base::{CoreId, NoMemory};

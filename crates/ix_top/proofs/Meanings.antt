@@ -16,7 +16,7 @@ use Rattle.ix_conf.specs.Value.{Gives as Gives-conf}
 use Rattle.ix_top.specs.Status.{capture_refusal, conf_refusal}
 use Rattle.ix_top.specs.declared.status.Status.TheVariants.{Unbuilt}
 use Rattle.ix_top.specs.declared.status.Unbuilt.TheVariants as unbuilt
-use Rattle.ix_top.specs.Top.{two_frames, frames_read, setup_read, Refuses}
+use Rattle.ix_top.specs.Top.{two_frames, frames_read, settings_read, Refuses}
 
 pub two_frames-few : (mac bytes : List ℕ) (spans : List Span) → length spans < 2 → two_frames mac (frames_of bytes spans) ≡ Err (Unbuilt unbuilt.Capture)
 two_frames-few mac bytes [] few = refl
@@ -30,7 +30,7 @@ two_frames-many mac bytes (a ∷ b ∷ []) many = absurd (omega (arith, many))
 two_frames-many mac bytes (a ∷ b ∷ c ∷ spans) many = refl
 
 -- The status of a refused configuration has its cause.
-pub Refuses-conf : (fault : ConfFault) (m : Result Settings ConfFault) → Gives-conf {A = Conf} {M = Settings} settings_of (Err fault) m → Refuses (conf_refusal fault) (setup_read m)
+pub Refuses-conf : (fault : ConfFault) (m : Result Settings ConfFault) → Gives-conf {A = Conf} {M = Settings} settings_of (Err fault) m → Refuses (conf_refusal fault) (settings_read m)
 Refuses-conf conf.Text m is = rw is refl
 Refuses-conf conf.Unknown m is = rw is refl
 Refuses-conf (conf.Missing key) m is = rw is refl
@@ -38,16 +38,16 @@ Refuses-conf (conf.Range key) m is = rw is refl
 Refuses-conf conf.NoMemory m is = tt
 
 -- The status of a refused capture has its cause.
-pub Refuses-capture : (mac bytes : List ℕ) (fault : CaptureFault) (m : Result (List Span) CaptureFault)
-    → Gives {A = List Span} (λ spans. spans) (Err fault) m → Refuses (capture_refusal fault) (frames_read mac bytes m)
-Refuses-capture mac bytes (CutHeader at) m is = rw is refl
-Refuses-capture mac bytes Pcapng m is = rw is refl
-Refuses-capture mac bytes BadMagic m is = rw is refl
-Refuses-capture mac bytes BadVersion m is = rw is refl
-Refuses-capture mac bytes BadLink m is = rw is refl
-Refuses-capture mac bytes TooManyRecords m is = rw is refl
-Refuses-capture mac bytes (CutRecord at) m is = rw is refl
-Refuses-capture mac bytes NoMemory m is = tt
+pub Refuses-capture : (bytes : List ℕ) (fault : CaptureFault) (m : Result (List Span) CaptureFault)
+    → Gives {A = List Span} (λ spans. spans) (Err fault) m → Refuses (capture_refusal fault) (frames_read bytes m)
+Refuses-capture bytes (CutHeader at) m is = rw is refl
+Refuses-capture bytes Pcapng m is = rw is refl
+Refuses-capture bytes BadMagic m is = rw is refl
+Refuses-capture bytes BadVersion m is = rw is refl
+Refuses-capture bytes BadLink m is = rw is refl
+Refuses-capture bytes TooManyRecords m is = rw is refl
+Refuses-capture bytes (CutRecord at) m is = rw is refl
+Refuses-capture bytes NoMemory m is = tt
 
 pub IfOk-map : {A E : Type 0} {P Q : A → Type 0} (r : Result A E) → ((x : A) → P x → Q x) → IfOk r P → IfOk r Q
 IfOk-map (Ok x) f p = f x p

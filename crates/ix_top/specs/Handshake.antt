@@ -1,6 +1,5 @@
 -- The handshake that two frames make, and what it writes.
-use Rattle.std.specs.Prelude.{ℕ, ◌+◌, ◌-◌, ◌*◌, ◌/◌, ◌%◌, ◌^◌, min, max, List, [], ◌∷◌, ◌++◌, length, codes, Bool, true, false, ◌&&◌, ◌==◌, nat_lt, if◌then◌else◌, Result, Ok, Err, Option, Some, None, unwrap_or}
-use Rattle.std.specs.Fmt.{decimal, digits, padded_integral, format_spec}
+use Rattle.std.specs.Prelude.{ℕ, ◌+◌, ◌*◌, ◌%◌, ◌^◌, min, max, List, [], ◌∷◌, ◌++◌, length, Bool, false, ◌&&◌, ◌==◌, nat_lt, if◌then◌else◌, Result, Ok, Err, Option, Some, None, unwrap_or}
 use Rattle.ix_base.specs.declared.id.Flow.{Flow}
 use Rattle.ix_base.specs.declared.segment.Seg.{Seg}
 use Rattle.ix_base.specs.declared.segment.SegHead.{SegHead}
@@ -15,7 +14,16 @@ use Rattle.ix_top.specs.declared.status.Status.{Status}
 use Rattle.ix_top.specs.declared.status.Status.TheVariants.{Unbuilt}
 use Rattle.ix_top.specs.declared.status.Unbuilt.TheVariants as unbuilt
 use Rattle.ix_top.specs.declared.setup.Setup.{Setup}
-use Rattle.ix_top.specs.declared.trace.TheConstants.{BEGINNING, INPUTS, END}
+use Rattle.ix_top.specs.declared.trace.TheConstants.{BEGINNING}
+use Rattle.ix_tcpdef.specs.declared.types.Left.{Left}
+use Rattle.ix_tcpdef.specs.declared.types.State.TheVariants as st
+use Rattle.ix_lines.specs.Words.{text_of}
+use Rattle.ix_lines.specs.declared.line.Line.{Line}
+use Rattle.ix_lines.specs.declared.line.Line.TheVariants as lines
+use Rattle.ix_lines.specs.declared.types.Opening.{Opening}
+use Rattle.ix_lines.specs.declared.types.InputKind.TheVariants as inputs
+use Rattle.ix_lines.specs.declared.types.OutputLine.TheVariants as outputs
+use Rattle.ix_lines.specs.declared.types.RetLine.TheVariants as rets
 
 abbrev pub segment_head : Result Seg Disposition → Option SegHead
 segment_head (Ok s) = Some s.head
@@ -91,25 +99,33 @@ syn_ack h = record {
 unfoldable pub replies_of : Handshake → List ℕ
 replies_of h = capture_bytes (record { at = 0; frame = frame_bytes (syn_ack h) h.setup.local [] } ∷ [])
 
--- an IPv4 address as its four octets, the highest first
-abbrev pub dotted : ℕ → List ℕ
-dotted n =
-    decimal (n / 16777216) ++ codes "." ++ decimal (n / 65536 % 256) ++ codes "." ++ decimal (n / 256 % 256) ++ codes "." ++ decimal (n % 256)
-
--- eight hexadecimal digits, the highest first
-abbrev pub hex8 : ℕ → List ℕ
-hex8 n = padded_integral (format_spec 32 0 4 8 (2 ^ 64 - 1)) false [] (digits 16 false n)
-
 -- The connection's flow group is the low nine bits of the hash, which is its initial number too.
-unfoldable pub conn_line_of : Handshake → List ℕ
-conn_line_of h =
-    codes "conn " ++ decimal (h.iss % 512) ++ codes " 0 remote " ++ dotted h.flow.remote ++ codes " " ++ decimal h.flow.remote_port
-    ++ codes " local " ++ decimal h.flow.local_port ++ codes " iss " ++ hex8 h.iss ++ codes "\n"
+abbrev pub opening_of : Handshake → Opening
+opening_of h = record {
+  group = record { 0 = h.iss % 512 };
+  remote = h.flow.remote;
+  remote_port = h.flow.remote_port;
+  local_port = h.flow.local_port;
+  iss = h.iss;
+}
 
-unfoldable pub left_line_of : ℕ → List ℕ
-left_line_of congestion_window =
-    codes "left ESTABLISHED una 1 nxt 1 rcv 1 cwnd " ++ decimal congestion_window ++ codes " ssthresh 65535\n"
+abbrev pub left_of : Handshake → Left
+left_of h = record { state = st.Established; una = 1; nxt = 1; rcv = 1; cwnd = h.congestion_window; ssthresh = 65535 }
+
+-- a segment of a wire entry, which core 0 stepped
+abbrev pub segment_line : ℕ → Line
+segment_line w = lines.Input (inputs.Seg (record { 0 = w }) (record { 0 = 0 }))
+
+abbrev pub flush_line : ℕ → Line
+flush_line w = lines.Input (inputs.Flush (record { 0 = w }))
 
 -- The segment with SYN, its answer, the segment that completes the handshake, the knock and the application's `Accept`.
+abbrev pub lines_of : Handshake → List Line
+lines_of h =
+    lines.Conn 0 (opening_of h)
+    ∷ segment_line 0 ∷ lines.Output (outputs.Reply 0) ∷ flush_line 0
+    ∷ segment_line 2 ∷ lines.Output outputs.Knock ∷ lines.Input inputs.Accept ∷ lines.Output (outputs.Ret (rets.Done 0)) ∷ flush_line 2
+    ∷ lines.Left (left_of h) ∷ lines.Answer 0 0 ∷ lines.End 1 0 ∷ []
+
 unfoldable pub trace_of : Handshake → List ℕ
-trace_of h = BEGINNING.now ++ conn_line_of h ++ INPUTS.now ++ left_line_of h.congestion_window ++ END.now
+trace_of h = BEGINNING.now ++ text_of (lines_of h)

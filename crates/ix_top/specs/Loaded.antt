@@ -1,5 +1,5 @@
 -- The frames that were read, as contracts see them.
-use Rattle.ix_top.specs.declared.inputs.Frames as loaded
+use Rattle.ix_top.specs.declared.records.Frames as loaded
 use Rattle.ix_top.specs.Top.{Frames}
 
 abbrev pub frames_in : loaded.Frames → Frames

@@ -6,6 +6,9 @@ use Rattle.ix_conf.specs.declared.keys.ConfFault.{ConfFault}
 use Rattle.ix_conf.specs.declared.keys.ConfFault.TheVariants as conf_fault
 use Rattle.ix_pcap.specs.declared.records.CaptureFault.{CaptureFault}
 use Rattle.ix_pcap.specs.declared.records.CaptureFault.TheVariants as fault
+use Rattle.ix_wire.specs.Kind.{kind_text}
+use Rattle.ix_wire.specs.declared.fault.ScriptFault.{ScriptFault}
+use Rattle.ix_wire.specs.declared.fault.ScriptFault.TheVariants as script_fault
 use Rattle.ix_top.specs.declared.status.Status.{Status}
 use Rattle.ix_top.specs.declared.status.Status.TheVariants.{Done, Usage, Conf, Script, Capture, ReadFault, WriteFault, NoMemory, Unbuilt}
 use Rattle.ix_top.specs.declared.status.CaptureRefusal.{CaptureRefusal}
@@ -13,6 +16,7 @@ use Rattle.ix_top.specs.declared.status.Unbuilt.{Unbuilt as UnbuiltPart}
 use Rattle.ix_top.specs.declared.status.Unbuilt.TheVariants as unbuilt
 use Rattle.ix_top.specs.declared.status.ConfRefusal.{ConfRefusal}
 use Rattle.ix_top.specs.declared.status.ConfRefusal.TheVariants as conf
+use Rattle.ix_top.specs.declared.status.ScriptRefusal.{ScriptRefusal}
 use Rattle.ix_top.specs.declared.status.ScriptRefusal.TheVariants as script
 use Rattle.ix_top.specs.declared.status.CaptureRefusal.TheVariants.{CutHeader, Pcapng, BadMagic, BadVersion, BadLink, TooManyRecords, CutRecord, TooBig}
 
@@ -53,6 +57,15 @@ capture_refusal fault.TooManyRecords = Capture TooManyRecords
 capture_refusal (fault.CutRecord at) = Capture (CutRecord at)
 capture_refusal fault.NoMemory = NoMemory
 
+-- The reader's meaning of a script has no want of memory; the case makes this total.
+abbrev pub script_refusal : ScriptFault → Status
+script_refusal (script_fault.At line kind) = Script (script.At line kind)
+script_refusal script_fault.NoMemory = NoMemory
+
+abbrev pub script_text_of : ScriptRefusal → List ℕ
+script_text_of (script.At line kind) = codes "ix: script: line " ++ decimal line ++ codes ": " ++ kind_text kind
+script_text_of script.TooBig = codes "ix: script: too-big"
+
 abbrev pub capture_text_of : CaptureRefusal → List ℕ
 capture_text_of (CutHeader at) = codes "ix: capture: cut-header " ++ decimal at
 capture_text_of Pcapng = codes "ix: capture: pcapng"
@@ -73,7 +86,7 @@ abbrev pub text_of : Status → List ℕ
 text_of Done = []
 text_of Usage = codes "ix: usage: ix play CONF SCRIPT CAPTURE REPLIES TRACE"
 text_of (Conf refusal) = conf_text_of refusal
-text_of (Script script.TooBig) = codes "ix: script: too-big"
+text_of (Script refusal) = script_text_of refusal
 text_of (Capture refusal) = capture_text_of refusal
 text_of ReadFault = codes "ix: read fault"
 text_of WriteFault = codes "ix: write fault"

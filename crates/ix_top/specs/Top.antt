@@ -1,13 +1,11 @@
 -- What the inputs of a play mean, which status may come, and what was written.
-use Rattle.std.specs.Prelude.{◌≡◌, ◌⊎◌, ◌||◌, Bool, true, ℕ, List, [], ◌∷◌, length, take, Result, Ok, Err, IsOk, String, string_bytes, Option, Some, None, nat_lt, if◌then◌else◌, codes}
-use Rattle.std.specs.Str.{bytes_eq}
+use Rattle.std.specs.Prelude.{◌≡◌, ◌⊎◌, ◌||◌, ◌&&◌, ◌==◌, Bool, true, false, ℕ, List, [], ◌∷◌, length, take, map, Result, Ok, Err, IsOk, String, string_bytes, Option, Some, None, nat_lt, if◌then◌else◌, codes}
 use Rattle.std.specs.Io.KnownBytes.{IsAtEnd, append_known}
 use Rattle.ix_base.specs.declared.role.Role.TheVariants as role
 use Rattle.ix_base.specs.Host.{State}
 use Rattle.ix_pcap.specs.declared.records.Span.{Span}
 use Rattle.ix_pcap.specs.declared.records.CaptureFault.{CaptureFault}
 use Rattle.ix_pcap.specs.Capture.{capture_of, frames_of}
-use Rattle.ix_top.specs.declared.setup.TheConstants.{BUILT_SCRIPT}
 use Rattle.ix_top.specs.declared.setup.Setup.{Setup}
 use Rattle.ix_top.specs.declared.status.Status.{Status}
 use Rattle.ix_top.specs.declared.status.Status.TheVariants.{Done, Usage, Conf, Script, Capture, ReadFault, WriteFault, NoMemory, Unbuilt}
@@ -16,7 +14,11 @@ use Rattle.ix_top.specs.declared.status.ScriptRefusal.TheVariants as script
 use Rattle.ix_top.specs.declared.status.CaptureRefusal.TheVariants as capture
 use Rattle.ix_top.specs.declared.status.Unbuilt.TheVariants as unbuilt
 use Rattle.ix_top.specs.declared.handshake.Handshake.{Handshake}
-use Rattle.ix_top.specs.Status.{capture_refusal, conf_refusal}
+use Rattle.ix_wire.specs.declared.entry.Entry.{Entry}
+use Rattle.ix_wire.specs.declared.entry.Entry.TheVariants as entries
+use Rattle.ix_wire.specs.declared.fault.ScriptFault.{ScriptFault}
+use Rattle.ix_script.specs.Script.{script_of}
+use Rattle.ix_top.specs.Status.{capture_refusal, conf_refusal, script_refusal}
 use Rattle.ix_conf.specs.Settings.{Settings, conf_of}
 use Rattle.ix_conf.specs.declared.keys.ConfFault.{ConfFault}
 use Rattle.ix_top.specs.Setup.{own_frame, served}
@@ -38,17 +40,36 @@ abbrev pub ◌>>=◌ : {A B : Type 0} → Result A Status → (A → Result B St
 (Ok x) >>= f = f x
 (Err e) >>= f = Err e
 
+abbrev pub settings_read : Result Settings ConfFault → Result Settings Status
+settings_read (Ok settings) = Ok settings
+settings_read (Err fault) = Err (conf_refusal fault)
+
+abbrev pub conf_input : List ℕ → Result Settings Status
+conf_input bytes = if nat_lt 65536 (length bytes) then Err (Conf conf.TooBig) else settings_read (conf_of bytes)
+
+abbrev pub frames_read : List ℕ → Result (List Span) CaptureFault → Result (List (List ℕ)) Status
+frames_read bytes (Ok spans) = Ok (frames_of bytes spans)
+frames_read bytes (Err fault) = Err (capture_refusal fault)
+
+abbrev pub capture_input : List ℕ → Result (List (List ℕ)) Status
+capture_input bytes =
+    if nat_lt 67108864 (length bytes) then Err (Capture capture.TooBig) else frames_read bytes (capture_of bytes)
+
+abbrev pub entries_read : Result (List Entry) ScriptFault → Result (List Entry) Status
+entries_read (Ok entries) = Ok entries
+entries_read (Err fault) = Err (script_refusal fault)
+
+-- the script of a play under this configuration over these frames
+abbrev pub script_input : Settings → List (List ℕ) → List ℕ → Result (List Entry) Status
+script_input settings frames bytes =
+    if nat_lt 8388608 (length bytes) then Err (Script script.TooBig)
+    else entries_read (script_of settings (map (own_frame settings.mac) frames) bytes)
+
+-- ## What can be played yet
 -- what a play takes from its configuration, where it can be played
 abbrev pub setup_served : Option Setup → Result Setup Status
 setup_served (Some setup) = Ok setup
 setup_served None = Err (Unbuilt unbuilt.Conf)
-
-abbrev pub setup_read : Result Settings ConfFault → Result Setup Status
-setup_read (Ok settings) = setup_served (served settings)
-setup_read (Err fault) = Err (conf_refusal fault)
-
-abbrev pub conf_input : List ℕ → Result Setup Status
-conf_input bytes = if nat_lt 65536 (length bytes) then Err (Conf conf.TooBig) else setup_read (conf_of bytes)
 
 -- two records, none of them the local side's own
 abbrev pub two_frames : List ℕ → List (List ℕ) → Result Frames Status
@@ -56,25 +77,27 @@ two_frames mac (first ∷ second ∷ []) =
     if own_frame mac first || own_frame mac second then Err (Unbuilt unbuilt.Capture) else Ok (record { first = first; second = second })
 two_frames mac _ = Err (Unbuilt unbuilt.Capture)
 
-abbrev pub frames_read : List ℕ → List ℕ → Result (List Span) CaptureFault → Result Frames Status
-frames_read mac bytes (Ok spans) = two_frames mac (frames_of bytes spans)
-frames_read mac bytes (Err fault) = Err (capture_refusal fault)
+-- the entries that can be played: both records, each with a settle behind it, and the settle at the end
+abbrev pub are_served : List Entry → Bool
+are_served (entries.Frame first ∷ entries.Settle ∷ entries.Frame second ∷ entries.Settle ∷ entries.Settle ∷ []) = (first == 0) && (second == 1)
+are_served _ = false
 
-abbrev pub capture_input : List ℕ → List ℕ → Result Frames Status
-capture_input mac bytes =
-    if nat_lt 67108864 (length bytes) then Err (Capture capture.TooBig) else frames_read mac bytes (capture_of bytes)
+abbrev pub entries_served : Bool → Result Bool Status
+entries_served true = Ok true
+entries_served false = Err (Unbuilt unbuilt.Script)
 
-abbrev pub script_input : List ℕ → Result Bool Status
-script_input bytes =
-    if nat_lt 8388608 (length bytes) then Err (Script script.TooBig)
-    else if bytes_eq bytes BUILT_SCRIPT.now then Ok true
-    else Err (Unbuilt unbuilt.Script)
+-- the handshake of inputs that were read, or the first of them that can't be played
+abbrev pub played : Settings → List (List ℕ) → List Entry → Result Handshake Status
+played settings frames entries =
+    setup_served (served settings) >>= λ setup. two_frames setup.local.mac frames >>= λ two. entries_served (are_served entries) >>= λ _.
+    handshake_of setup two.first two.second
 
--- the handshake that the inputs play, or the first refusal in the order of reading
+-- ## A play
+-- the handshake that the inputs play, or the first refusal in the order of reading; all are read before one is found that can't be played
 abbrev pub play_meaning : Given → Result Handshake Status
 play_meaning g =
-    conf_input g.conf >>= λ setup. capture_input setup.local.mac g.capture >>= λ frames. script_input g.script >>= λ _.
-    handshake_of setup frames.first frames.second
+    conf_input g.conf >>= λ settings. capture_input g.capture >>= λ frames. script_input settings frames g.script >>= λ entries.
+    played settings frames entries
 
 -- the host tells what the three roles have left
 pub record Tells (x : State) (g : Given) : Type 0 where

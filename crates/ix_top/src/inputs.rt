@@ -1,23 +1,24 @@
 // Reads the three inputs of a play, each with its meaning before the next.
-ghost use Rattle.std.specs.Prelude.{◌≡◌, ◌≢◌, ◌≤◌, List, ℕ, IfOk, IfErr, OnOk, IsErrOf, Some, Ok, Err, true, All};
+ghost use Rattle.std.specs.Prelude.{◌≡◌, ◌≢◌, ◌≤◌, List, ℕ, map, IfOk, IfErr, OnOk, IsErrOf, Some, Ok, Err};
 ghost use Rattle.std.specs.Io.KnownBytes.{IsAtEnd};
 ghost use Rattle.ix_base.specs.declared.role.Role.TheVariants as role;
 ghost use Rattle.ix_base.specs.declared.role.Kind.TheVariants.{Reading, Writing};
 ghost use Rattle.ix_base.specs.Host.{Rose, Reads};
-ghost use Rattle.ix_conf.specs.Settings.{conf_of};
-ghost use Rattle.ix_pcap.specs.Capture.{IsSpanOf, capture_of, frames_of};
-ghost use Rattle.ix_top.specs.Loaded.{frames_in};
-ghost use Rattle.ix_top.specs.Top.{conf_input, setup_read, capture_input, script_input, two_frames, frames_read, play_meaning, Given, Refuses, IsStop, Tells, AllRead, WritesNothing};
+ghost use Rattle.ix_conf.specs.Settings.{conf_of, settings_of};
+ghost use Rattle.ix_script.specs.Script.{script_of};
+ghost use Rattle.ix_top.specs.Setup.{own_frame};
+ghost use Rattle.ix_top.specs.Top.{conf_input, settings_read, capture_input, script_input, entries_read, played, play_meaning, Given, Refuses, IsStop, Tells, AllRead, WritesNothing};
 
 use crate::handshake::{Handshake, read_handshake};
 use crate::reading::{ReadError, load};
-use crate::setup::{BUILT_SCRIPT, Setup, is_own, setup_of};
+use crate::records::Records;
+use crate::setup::{is_served, setup_of};
 use crate::status::{
-    CaptureRefusal, ConfRefusal, ScriptRefusal, Status, Unbuilt, capture_status, conf_status,
+    CaptureRefusal, ConfRefusal, ScriptRefusal, Status, Unbuilt, conf_status, script_status,
 };
 use ix_base::{Bytes, Host, NoMemory, Role};
-use ix_conf::read_conf;
-use ix_pcap::{Capture, read_capture};
+use ix_conf::{Conf, read_conf};
+use ix_script::{Entry, read_script};
 use std::alloc::Global;
 
 const CONF_LIMIT: usize = 65_536;
@@ -25,13 +26,6 @@ const CONF_LIMIT: usize = 65_536;
 const CAPTURE_LIMIT: usize = 67_108_864;
 
 const SCRIPT_LIMIT: usize = 8_388_608;
-
-/// The frames of a capture of two records.
-#[derive(Drop)]
-pub struct Frames {
-    pub first: Bytes,
-    pub second: Bytes,
-}
 
 /// The handshake that the three inputs play, or the status that stops the reading.
 pub fn read_inputs<H: Host>(
@@ -50,16 +44,16 @@ pub fn read_inputs<H: Host>(
     ensures nothing { WritesNothing (H.state host.old) (H.state host.new) }
     ensures other { (H.state host.new).faults Writing ≡ (H.state host.old).faults Writing }
 {
-    let setup = read_setup(alloc, host, conf)?;
-    let frames = read_frames(alloc, host, capture, &setup.local.mac)?;
-    read_script(alloc, host, script)?;
-    read_handshake(&setup, frames.first.as_slice(), frames.second.as_slice())
+    let conf = read_settings(alloc, host, conf)?;
+    let records = read_records(alloc, host, capture)?;
+    let entries = read_entries(alloc, host, script, &conf, &records)?;
+    play_of(alloc, &conf, &records, entries.as_slice())
 }
 
-fn read_setup<H: Host>(alloc: Global, host: &mut H, name: &str) -> Result<Setup, Status>
+fn read_settings<H: Host>(alloc: Global, host: &mut H, name: &str) -> Result<Conf, Status>
     ensures state { (bytes : List ℕ) × Reads role.Conf bytes (H.state host.old) (H.state host.new) }
     ensures end { OnOk result (IsAtEnd ((H.state host.new).left role.Conf)) }
-    ensures ok { IfOk result (λ s. (k : List ℕ) → (H.state host.old).left role.Conf ≡ Some k → conf_input k ≡ Ok s) }
+    ensures ok { IfOk result (λ c. (k : List ℕ) → (H.state host.old).left role.Conf ≡ Some k → conf_input k ≡ Ok (settings_of c)) }
     ensures err { IfErr result (λ s. (k : List ℕ) → (H.state host.old).left role.Conf ≡ Some k → Refuses s (conf_input k)) }
     ensures stops { IfErr result IsStop }
     ensures failed { IsErrOf result Status.ReadFault → Rose ((H.state host.old).faults Reading) ((H.state host.new).faults Reading) }
@@ -74,33 +68,24 @@ fn read_setup<H: Host>(alloc: Global, host: &mut H, name: &str) -> Result<Setup,
     parse_conf(alloc, &bytes)
 }
 
-// What a play takes from the bytes of a configuration.
-fn parse_conf(alloc: Global, bytes: &[u8]) -> Result<Setup, Status>
-    ensures ok { IfOk result (λ s. setup_read (conf_of bytes.now) ≡ Ok s) }
-    ensures err { IfErr result (λ e. Refuses e (setup_read (conf_of bytes.now))) }
+// The configuration of these bytes.
+fn parse_conf(alloc: Global, bytes: &[u8]) -> Result<Conf, Status>
+    ensures ok { IfOk result (λ c. settings_read (conf_of bytes.now) ≡ Ok (settings_of c)) }
+    ensures err { IfErr result (λ e. Refuses e (settings_read (conf_of bytes.now))) }
     ensures stops { IfErr result IsStop }
     ensures failed { result ≢ Err Status.ReadFault }
 {
-    let conf = match read_conf(alloc, bytes) {
-        Ok(conf) => conf,
-        Err(fault) => return Err(conf_status(fault)),
-    };
-    match setup_of(&conf) {
-        Some(setup) => Ok(setup),
-        None => Err(Status::Unbuilt(Unbuilt::Conf)),
+    match read_conf(alloc, bytes) {
+        Ok(conf) => Ok(conf),
+        Err(fault) => Err(conf_status(fault)),
     }
 }
 
-fn read_frames<H: Host>(
-    alloc: Global,
-    host: &mut H,
-    name: &str,
-    mac: &[u8; 6],
-) -> Result<Frames, Status>
+fn read_records<H: Host>(alloc: Global, host: &mut H, name: &str) -> Result<Records, Status>
     ensures state { (bytes : List ℕ) × Reads role.Capture bytes (H.state host.old) (H.state host.new) }
     ensures end { OnOk result (IsAtEnd ((H.state host.new).left role.Capture)) }
-    ensures ok { IfOk result (λ f. (c : List ℕ) → (H.state host.old).left role.Capture ≡ Some c → capture_input mac.now c ≡ Ok (frames_in f)) }
-    ensures err { IfErr result (λ s. (c : List ℕ) → (H.state host.old).left role.Capture ≡ Some c → Refuses s (capture_input mac.now c)) }
+    ensures ok { IfOk result (λ r. (c : List ℕ) → (H.state host.old).left role.Capture ≡ Some c → capture_input c ≡ Ok r) }
+    ensures err { IfErr result (λ s. (c : List ℕ) → (H.state host.old).left role.Capture ≡ Some c → Refuses s (capture_input c)) }
     ensures stops { IfErr result IsStop }
     ensures failed { IsErrOf result Status.ReadFault → Rose ((H.state host.old).faults Reading) ((H.state host.new).faults Reading) }
 {
@@ -111,14 +96,20 @@ fn read_frames<H: Host>(
     if bytes.len() > CAPTURE_LIMIT {
         return Err(Status::Capture(CaptureRefusal::TooBig));
     }
-    parse_capture(alloc, &bytes, mac)
+    Records::parse(alloc, Bytes::from_vec(bytes))
 }
 
-fn read_script<H: Host>(alloc: Global, host: &mut H, name: &str) -> Result<(), Status>
+fn read_entries<H: Host>(
+    alloc: Global,
+    host: &mut H,
+    name: &str,
+    conf: &Conf,
+    records: &Records,
+) -> Result<Vec<Entry>, Status>
     ensures state { (bytes : List ℕ) × Reads role.Script bytes (H.state host.old) (H.state host.new) }
     ensures end { OnOk result (IsAtEnd ((H.state host.new).left role.Script)) }
-    ensures ok { IfOk result (λ _. (s : List ℕ) → (H.state host.old).left role.Script ≡ Some s → script_input s ≡ Ok true) }
-    ensures err { IfErr result (λ e. (s : List ℕ) → (H.state host.old).left role.Script ≡ Some s → Refuses e (script_input s)) }
+    ensures ok { IfOk result (λ e. (s : List ℕ) → (H.state host.old).left role.Script ≡ Some s → script_input (settings_of conf.now) records.now s ≡ Ok e.items) }
+    ensures err { IfErr result (λ e. (s : List ℕ) → (H.state host.old).left role.Script ≡ Some s → Refuses e (script_input (settings_of conf.now) records.now s)) }
     ensures stops { IfErr result IsStop }
     ensures failed { IsErrOf result Status.ReadFault → Rose ((H.state host.old).faults Reading) ((H.state host.new).faults Reading) }
 {
@@ -129,11 +120,54 @@ fn read_script<H: Host>(alloc: Global, host: &mut H, name: &str) -> Result<(), S
     if bytes.len() > SCRIPT_LIMIT {
         return Err(Status::Script(ScriptRefusal::TooBig));
     }
-    if bytes.as_slice() == BUILT_SCRIPT {
-        Ok(())
-    } else {
-        Err(Status::Unbuilt(Unbuilt::Script))
+    parse_entries(alloc, &bytes, conf, records)
+}
+
+// The wire list of these bytes.
+fn parse_entries(
+    alloc: Global,
+    bytes: &[u8],
+    conf: &Conf,
+    records: &Records,
+) -> Result<Vec<Entry>, Status>
+    ensures ok { IfOk result (λ e. entries_read (script_of (settings_of conf.now) (map (own_frame conf.now.mac) records.now) bytes.now) ≡ Ok e.items) }
+    ensures err { IfErr result (λ e. Refuses e (entries_read (script_of (settings_of conf.now) (map (own_frame conf.now.mac) records.now) bytes.now))) }
+    ensures stops { IfErr result IsStop }
+    ensures failed { result ≢ Err Status.ReadFault }
+{
+    let own = match records.own(alloc, &conf.mac) {
+        Ok(own) => own,
+        Err(NoMemory) => return Err(Status::NoMemory),
+    };
+    match read_script(alloc, bytes, conf, own.as_slice()) {
+        Ok(entries) => Ok(entries),
+        Err(fault) => Err(script_status(fault)),
     }
+}
+
+// The handshake of inputs that were read, or the first of them that can't be played.
+fn play_of(
+    alloc: Global,
+    conf: &Conf,
+    records: &Records,
+    entries: &[Entry],
+) -> Result<Handshake, Status>
+    ensures ok { IfOk result (λ h. played (settings_of conf.now) records.now entries.now ≡ Ok h) }
+    ensures err { IfErr result (λ e. Refuses e (played (settings_of conf.now) records.now entries.now)) }
+    ensures stops { IfErr result IsStop }
+    ensures failed { result ≢ Err Status.ReadFault }
+{
+    let Some(setup) = setup_of(conf) else {
+        return Err(Status::Unbuilt(Unbuilt::Conf));
+    };
+    let frames = match records.frames(alloc, &setup.local.mac) {
+        Ok(frames) => frames,
+        Err(status) => return Err(status),
+    };
+    if !is_served(entries) {
+        return Err(Status::Unbuilt(Unbuilt::Script));
+    }
+    read_handshake(&setup, frames.first.as_slice(), frames.second.as_slice())
 }
 
 fn stop(error: ReadError) -> Status
@@ -144,55 +178,4 @@ fn stop(error: ReadError) -> Status
         ReadError::Memory => Status::NoMemory,
         ReadError::Failed => Status::ReadFault,
     }
-}
-
-// The frames of the bytes of a capture.
-fn parse_capture(alloc: Global, bytes: &[u8], mac: &[u8; 6]) -> Result<Frames, Status>
-    ensures ok { IfOk result (λ f. frames_read mac.now bytes.now (capture_of bytes.now) ≡ Ok (frames_in f)) }
-    ensures err { IfErr result (λ e. Refuses e (frames_read mac.now bytes.now (capture_of bytes.now))) }
-    ensures stops { IfErr result IsStop }
-    ensures failed { result ≢ Err Status.ReadFault }
-{
-    match read_capture(alloc, bytes) {
-        Ok(capture) => take_frames(alloc, bytes, &capture, mac),
-        Err(fault) => Err(capture_status(fault)),
-    }
-}
-
-// The frames of a capture of two records, none of them the local side's own.
-fn take_frames(
-    alloc: Global,
-    bytes: &[u8],
-    capture: &Capture,
-    mac: &[u8; 6],
-) -> Result<Frames, Status>
-    requires { All (IsSpanOf bytes.now) capture.now }
-    ensures ok { IfOk result (λ f. two_frames mac.now (frames_of bytes.now capture.now) ≡ Ok (frames_in f)) }
-    ensures err { IfErr result (λ e. Refuses e (two_frames mac.now (frames_of bytes.now capture.now))) }
-    ensures stops { IfErr result IsStop }
-    ensures failed { result ≢ Err Status.ReadFault }
-{
-    match capture.spans() {
-        [first, second] => {
-            let first = &bytes[first.from..first.to];
-            let second = &bytes[second.from..second.to];
-            if is_own(mac, first) || is_own(mac, second) {
-                return Err(Status::Unbuilt(Unbuilt::Capture));
-            }
-            match copy_frames(alloc, first, second) {
-                Ok(frames) => Ok(frames),
-                Err(NoMemory) => Err(Status::NoMemory),
-            }
-        }
-        _ => Err(Status::Unbuilt(Unbuilt::Capture)),
-    }
-}
-
-fn copy_frames(alloc: Global, first: &[u8], second: &[u8]) -> Result<Frames, NoMemory>
-    ensures { IfOk result (λ f. frames_in f ≡ record { first = first.now; second = second.now }) }
-{
-    Ok(Frames {
-        first: Bytes::from_slice(alloc, first)?,
-        second: Bytes::from_slice(alloc, second)?,
-    })
 }

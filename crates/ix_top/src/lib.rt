@@ -5,6 +5,7 @@ mod handshake;
 mod inputs;
 mod outputs;
 mod reading;
+mod records;
 mod setup;
 mod status;
 mod top;

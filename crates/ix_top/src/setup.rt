@@ -1,13 +1,12 @@
-// What a play takes from its configuration, and the script that this program can play.
+// What a play takes from its configuration and its script.
 ghost use Rattle.std.specs.Prelude.{◌≡◌};
 ghost use Rattle.ix_conf.specs.Settings.{settings_of};
 ghost use Rattle.ix_top.specs.Setup.{own_frame, served};
+ghost use Rattle.ix_top.specs.Top.{are_served};
 
 use ix_base::Local;
 use ix_conf::{AppKind, Conf};
-
-/// The script that plays both records, each with a settle behind it.
-pub const BUILT_SCRIPT: &[u8] = b"each 0 1\n";
+use ix_script::Entry;
 
 /// The local side and the numbers of a handshake, from the configuration.
 #[derive(Clone, Copy, Debug, PartialEq, Eq)]
@@ -45,4 +44,20 @@ pub fn is_own(mac: &[u8; 6], frame: &[u8]) -> bool
     ensures { result ≡ own_frame mac.now frame.now }
 {
     frame.len() >= 14 && &frame[6..12] == mac.as_slice()
+}
+
+/// Whether a script gives the entries that can be played: both records, each with a settle behind it, and the settle at the end.
+pub fn is_served(entries: &[Entry]) -> bool
+    ensures { result ≡ are_served entries.now }
+{
+    match entries {
+        [
+            Entry::Frame { rec: first },
+            Entry::Settle,
+            Entry::Frame { rec: second },
+            Entry::Settle,
+            Entry::Settle,
+        ] => *first == 0 && *second == 1,
+        _ => false,
+    }
 }

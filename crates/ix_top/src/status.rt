@@ -2,11 +2,12 @@
 ghost use Rattle.std.specs.Prelude.{◌≡◌, ◌≢◌, ◌++◌, IfOk, string_bytes};
 ghost use Rattle.std.specs.Fmt.{decimal};
 ghost use Rattle.ix_top.specs.Top.{IsStop};
-ghost use Rattle.ix_top.specs.Status.{text_of, conf_text_of, conf_refusal, capture_text_of, unbuilt_text_of, capture_refusal};
+ghost use Rattle.ix_top.specs.Status.{text_of, conf_text_of, conf_refusal, script_text_of, capture_text_of, unbuilt_text_of, capture_refusal, script_refusal};
 
 use ix_base::{Bytes, NoMemory};
 use ix_conf::{ConfFault, ConfKey};
 use ix_pcap::CaptureFault;
+use ix_script::{ScriptFault, ScriptKind};
 use std::alloc::{AllocError, Global};
 
 /// How a call of the program ended. A status's number is the program's exit status.
@@ -43,9 +44,10 @@ pub enum ConfRefusal {
     TooBig,
 }
 
-/// Why a script is refused.
+/// Why a script is refused: its first faulty line, counted from 1, or its size.
 #[derive(Clone, Copy, Debug, PartialEq, Eq)]
 pub enum ScriptRefusal {
+    At { line: u32, kind: ScriptKind },
     /// It has more than 8,388,608 bytes.
     TooBig,
 }
@@ -71,7 +73,7 @@ pub enum Unbuilt {
     Conf,
     /// A capture of other than two records, or with a record of the local side's own.
     Capture,
-    /// A script other than the one that plays both records.
+    /// A script that gives other entries than both records, each with a settle behind it.
     Script,
     /// The frame of wire entry `w` isn't the one that a handshake has there.
     Input { w: u32 },
@@ -131,6 +133,18 @@ pub fn capture_status(fault: CaptureFault) -> Status
     })
 }
 
+/// The status of a script that the reader refused.
+pub fn script_status(fault: ScriptFault) -> Status
+    ensures status { result ≡ script_refusal fault }
+    ensures stops { IsStop result }
+    ensures no_fault { result ≢ Status.ReadFault }
+{
+    match fault {
+        ScriptFault::At { line, kind } => Status::Script(ScriptRefusal::At { line, kind }),
+        ScriptFault::NoMemory => Status::NoMemory,
+    }
+}
+
 /// The one line, without its line feed, that tells a status on standard error; nothing for `Done`.
 pub fn status_text(alloc: Global, status: &Status) -> Result<Bytes, NoMemory>
     ensures { IfOk result (λ text. text ≡ text_of status.now) }
@@ -139,7 +153,7 @@ pub fn status_text(alloc: Global, status: &Status) -> Result<Bytes, NoMemory>
         Status::Done => String::new(alloc),
         Status::Usage => String::from_str(alloc, USAGE)?,
         Status::Conf(refusal) => conf_text(alloc, refusal)?,
-        Status::Script(ScriptRefusal::TooBig) => String::from_str(alloc, "ix: script: too-big")?,
+        Status::Script(refusal) => script_text(alloc, refusal)?,
         Status::Capture(refusal) => capture_text(alloc, refusal)?,
         Status::ReadFault => String::from_str(alloc, "ix: read fault")?,
         Status::WriteFault => String::from_str(alloc, "ix: write fault")?,
@@ -177,6 +191,20 @@ fn capture_text(alloc: Global, refusal: &CaptureRefusal) -> Result<String, Alloc
         }
         CaptureRefusal::CutRecord { at } => counted(alloc, "ix: capture: cut-record ", *at),
         CaptureRefusal::TooBig => String::from_str(alloc, "ix: capture: too-big"),
+    }
+}
+
+fn script_text(alloc: Global, refusal: &ScriptRefusal) -> Result<String, AllocError>
+    ensures { IfOk result (λ text. string_bytes text ≡ script_text_of refusal.now) }
+{
+    match refusal {
+        ScriptRefusal::At { line, kind } => {
+            let mut text = counted(alloc, "ix: script: line ", *line as usize)?;
+            text.push_str(": ")?;
+            text.push_str(kind.text())?;
+            Ok(text)
+        }
+        ScriptRefusal::TooBig => String::from_str(alloc, "ix: script: too-big"),
     }
 }
 

@@ -123,3 +123,27 @@ fn other_words_are_refused(rt: HostRuntime) -> Result<(), Fail> {
     );
     Ok(())
 }
+
+// Scripts that can't be played, with the number of their status and its text.
+const SCRIPTS: [(&[u8], u8, &str); 6] = [
+    (b"revoke 0", 3, "ix: script: line 1: last-core"),
+    (b"move 5 0\n", 3, "ix: script: line 1: not-tagged"),
+    (b"tag 5\n", 3, "ix: script: line 1: left-tagged"),
+    (b"time 5\n# a note\ntime 4\n", 3, "ix: script: line 3: back"),
+    (b"each 0 2\n", 3, "ix: script: line 1: no-record"),
+    (b"frames 0 1\n", 9, "ix: unbuilt script"),
+];
+
+#[test]
+fn a_script_is_refused(rt: HostRuntime) -> Result<(), Fail> {
+    let alloc = rt.alloc();
+    for (script, number, text) in &SCRIPTS {
+        let mut memory = host(alloc, CONF, CAPTURE, script, ROOM, &[])?;
+        let status = ix(&rt, alloc, words(alloc, &PLAY)?.as_slice(), &mut memory);
+        assert_eq!(rt; status.number(), *number, "{text}");
+        assert_eq!(rt; status_text(alloc, &status)?.as_slice(), text.as_bytes());
+        assert_eq!(rt; memory.written(Role::Replies).len(), 0, "{text}");
+        assert_eq!(rt; memory.written(Role::Trace).len(), 0, "{text}");
+    }
+    Ok(())
+}

@@ -1,93 +1,91 @@
 // The short trace of a handshake.
 ghost use Rattle.std.specs.Prelude.{◌≡◌, ◌++◌, IfOk, OnOk, string_bytes};
-ghost use Rattle.std.specs.Fmt.{decimal};
-ghost use Rattle.ix_top.specs.Handshake.{trace_of, conn_line_of, left_line_of, dotted, hex8};
+ghost use Rattle.ix_lines.specs.Words.{text_of};
+ghost use Rattle.ix_top.specs.Handshake.{trace_of};
 
 use crate::handshake::Handshake;
-use ix_base::{Bytes, NoMemory};
+use ix_base::{Bytes, CoreId, GroupId, NoMemory, WireNo};
+use ix_lines::{InputKind, Line, Opening, OutputLine, RetLine, push_line};
+use ix_tcpdef::{Left, State};
 use std::alloc::{AllocError, Global};
 
+/// The head of a trace that has no lines on settles and single frames.
 const BEGINNING: &str = "head 0\n";
-
-const INPUTS: &str = "seg 0 core 0
-reply 0
-flush 0
-seg 2 core 0
-event knock
-call accept
-ret done 0
-flush 2
-";
-
-const END: &str = "answer wrote 0 taken 0\nend replies 1 drops 0\n";
 
 /// The text of the trace: one connection that was opened and accepted, and has told nothing.
 #[tactic(auto, unfolding(crate::specs::Handshake::trace_of))]
 pub fn trace_text(alloc: Global, handshake: &Handshake) -> Result<Bytes, NoMemory>
     ensures { IfOk result (λ text. text ≡ trace_of handshake.now) }
 {
-    let mut text = String::new(alloc);
-    text.push_str(BEGINNING)?;
-    text.push_str(conn_line(alloc, handshake)?.as_str())?;
-    text.push_str(INPUTS)?;
-    text.push_str(left_line(alloc, handshake.congestion_window)?.as_str())?;
-    text.push_str(END)?;
+    let mut text = String::from_str(alloc, BEGINNING)?;
+    push_lines(&mut text, &handshake.lines())?;
     Ok(Bytes::from_vec(text.into_bytes()))
 }
 
-#[tactic(auto, unfolding(crate::specs::Handshake::conn_line_of))]
-fn conn_line(alloc: Global, handshake: &Handshake) -> Result<String, AllocError>
-    ensures { IfOk result (λ line. string_bytes line ≡ conn_line_of handshake.now) }
+// Adds lines, each with its line feed.
+fn push_lines(text: &mut String, lines: &[Line]) -> Result<(), AllocError>
+    ensures { OnOk result (string_bytes text.new ≡ string_bytes text.old ++ text_of lines.now) }
 {
-    let flow = handshake.flow;
-    let mut line = String::new(alloc);
-    line.push_str("conn ")?;
-    push_number(alloc, &mut line, handshake.iss % 512)?;
-    line.push_str(" 0 remote ")?;
-    push_address(alloc, &mut line, flow.remote)?;
-    line.push_str(" ")?;
-    push_number(alloc, &mut line, flow.remote_port as u32)?;
-    line.push_str(" local ")?;
-    push_number(alloc, &mut line, flow.local_port as u32)?;
-    line.push_str(" iss ")?;
-    push_hex(alloc, &mut line, handshake.iss)?;
-    line.push_str("\n")?;
-    Ok(line)
+    for i in 0..lines.len() {
+        push_line(text, lines[i])?;
+    }
+    Ok(())
 }
 
-#[tactic(auto, unfolding(crate::specs::Handshake::left_line_of))]
-fn left_line(alloc: Global, congestion_window: u32) -> Result<String, AllocError>
-    ensures { IfOk result (λ line. string_bytes line ≡ left_line_of congestion_window) }
-{
-    let mut line = String::new(alloc);
-    line.push_str("left ESTABLISHED una 1 nxt 1 rcv 1 cwnd ")?;
-    push_number(alloc, &mut line, congestion_window)?;
-    line.push_str(" ssthresh 65535\n")?;
-    Ok(line)
-}
+impl Handshake {
+    ghost use Rattle.std.specs.Prelude.{◌≡◌};
+    ghost use Rattle.ix_top.specs.Handshake.{lines_of, opening_of, left_of};
 
-fn push_number(alloc: Global, text: &mut String, n: u32) -> Result<(), AllocError>
-    ensures { OnOk result (string_bytes text.new ≡ string_bytes text.old ++ decimal n) }
-{
-    text.push_str(n.to_string(alloc)?.as_str())
-}
+    // The segment with SYN, its answer, the segment that completes the handshake, the knock and the application's `Accept`.
+    fn lines(&self) -> [Line; 12]
+        ensures { result ≡ lines_of self.now }
+    {
+        let core = CoreId(0);
+        [
+            Line::Conn {
+                order: 0,
+                opening: self.opening(),
+            },
+            Line::Input(InputKind::Seg { w: WireNo(0), core }),
+            Line::Output(OutputLine::Reply(0)),
+            Line::Input(InputKind::Flush { w: WireNo(0) }),
+            Line::Input(InputKind::Seg { w: WireNo(2), core }),
+            Line::Output(OutputLine::Knock),
+            Line::Input(InputKind::Accept),
+            Line::Output(OutputLine::Ret(RetLine::Done(0))),
+            Line::Input(InputKind::Flush { w: WireNo(2) }),
+            Line::Left(self.left()),
+            Line::Answer { wrote: 0, taken: 0 },
+            Line::End {
+                replies: 1,
+                drops: 0,
+            },
+        ]
+    }
 
-fn push_address(alloc: Global, text: &mut String, address: u32) -> Result<(), AllocError>
-    ensures { OnOk result (string_bytes text.new ≡ string_bytes text.old ++ dotted address) }
-{
-    push_number(alloc, text, address >> 24)?;
-    text.push_str(".")?;
-    push_number(alloc, text, (address >> 16) % 256)?;
-    text.push_str(".")?;
-    push_number(alloc, text, (address >> 8) % 256)?;
-    text.push_str(".")?;
-    push_number(alloc, text, address % 256)
-}
+    // The connection's flow group is the low nine bits of the hash, which is its initial number too.
+    fn opening(&self) -> Opening
+        ensures { result ≡ opening_of self.now }
+    {
+        Opening {
+            group: GroupId((self.iss % 512) as u16),
+            remote: self.flow.remote,
+            remote_port: self.flow.remote_port,
+            local_port: self.flow.local_port,
+            iss: self.iss,
+        }
+    }
 
-// Eight hexadecimal digits, the highest first.
-fn push_hex(alloc: Global, text: &mut String, n: u32) -> Result<(), AllocError>
-    ensures { OnOk result (string_bytes text.new ≡ string_bytes text.old ++ hex8 n) }
-{
-    let digits = format!(in alloc; "{n:08x}")?;
-    text.push_str(digits.as_str())
+    fn left(&self) -> Left
+        ensures { result ≡ left_of self.now }
+    {
+        Left {
+            state: State::Established,
+            una: 1,
+            nxt: 1,
+            rcv: 1,
+            cwnd: self.congestion_window,
+            ssthresh: 65_535,
+        }
+    }
 }

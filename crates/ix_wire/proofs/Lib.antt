@@ -1,6 +1,13 @@
+pub mod ClassLaws
 pub mod CommandLaws
+pub mod CommandRanges
+pub mod Effects
+pub mod EntryLaws
 pub mod ProgressLaws
+pub mod PutLaws
 pub mod RecordLaws
+pub mod SoundLaws
 pub mod TableLaws
 pub mod TextLaws
+pub mod WireLaws
 pub mod WordLaws

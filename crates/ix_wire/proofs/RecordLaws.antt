@@ -43,7 +43,7 @@ pub others_from-other : (own : List Bool) (i : ℕ) (d : Bool) → i < length ow
 unfolding others_from
 others_from-other own i d h is = one own i d h ∙ ap (λ b. others_from 0 (take i own) ++ others_from i (b ∷ [])) is
 
-others_from-below : (rec last : ℕ) (xs : List Bool) → rec + length xs ≤ last + 1 → All (λ r. r ≤ last) (others_from rec xs)
+pub others_from-below : (rec last : ℕ) (xs : List Bool) → rec + length xs ≤ last + 1 → All (λ r. r ≤ last) (others_from rec xs)
 unfolding others_from
 others_from-below rec last [] h = All-nil _
 others_from-below rec last (true ∷ xs) h = others_from-below (rec + 1) last xs (omega arith)

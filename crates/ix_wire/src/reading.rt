@@ -1,7 +1,9 @@
 // A whole script.
-ghost use Rattle.std.specs.Prelude.{◌≡◌, ◌≤◌, IfOk};
+ghost use Rattle.std.specs.Prelude.{◌≡◌, ◌≤◌, IfOk, length};
 ghost use Rattle.ix_wire.specs.Chain.{Leaves};
 ghost use Rattle.ix_wire.specs.Text.{lines_of};
+ghost use Rattle.ix_wire.specs.Classes.{KeepsClasses};
+ghost use Rattle.ix_wire.specs.Entries.{IsWire};
 ghost use Rattle.ix_wire.specs.Script.{Gives, finish, lines_run, opening, wire_of};
 
 use crate::command::Version;
@@ -21,7 +23,9 @@ const MAX_LINES: u32 = 65_536;
 /// Reads the bytes of a script for a play on so many cores, the first `live` of them live, over a capture, of which `own` says for each
 /// record whether it is the local side's own. A settle is added after the `pace`-th frame since the last one, or for no number of frames
 /// where it is 0. Answers the whole wire list, or the first faulty line with the first kind, in the order of `ScriptKind`, that applies to
-/// it; a tag that has no move is told last, at the line of the first such one.
+/// it; a tag that has no move is told last, at the line of the first such one. Between two lines of a script of version 1 the four flow
+/// groups of a class are on one core. Each entry names a record, a flow group and a core that are there, and the tags and moves of each
+/// flow group alternate.
 #[tactic(auto, unfolding(crate::specs::Script::wire_of))]
 pub fn read_wire(
     alloc: Global,
@@ -34,6 +38,8 @@ pub fn read_wire(
     requires cores { cores ≤ 8 }
     requires live { (1 ≤ live) × (live ≤ cores) }
     ensures wire { Gives (λ entries. entries.items) result (wire_of pace cores live own.now bytes.now) }
+    ensures classes { KeepsClasses pace cores live own.now bytes.now }
+    ensures entries { IfOk result (λ entries. IsWire (length own.now) cores entries.items) }
 {
     let Ok(records) = Records::new(alloc, own) else {
         return Err(ScriptFault::NoMemory);

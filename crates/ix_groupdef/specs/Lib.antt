@@ -1,0 +1,17 @@
+pub mod Flow
+pub mod Setting
+pub mod Env
+pub mod Talk
+pub mod Life
+pub mod Calls
+pub mod Strays
+pub mod Reading
+pub mod Group
+pub mod Record
+pub mod Laws
+pub mod Places
+pub mod Alone
+pub mod Cycles
+pub mod Answered
+pub mod Told
+pub mod StrayFrames

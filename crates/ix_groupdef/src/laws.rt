@@ -1,0 +1,32 @@
+// Laws over all runs of a group.
+ghost use Rattle.ix_groupdef.specs.Laws.{AreRuns, FewLive};
+ghost use Rattle.ix_groupdef.specs.Places.{NoneLost, HearOwn, HeardInOrder};
+ghost use Rattle.ix_groupdef.specs.Alone.{AreFollowed};
+ghost use Rattle.ix_groupdef.specs.Cycles.{AreLegal, QuietStays};
+ghost use Rattle.ix_groupdef.specs.Answered.{TookFronts};
+ghost use Rattle.ix_groupdef.specs.Told.{ToldStreams};
+ghost use Rattle.ix_groupdef.specs.StrayFrames.{StraysInOrder};
+
+/// Nothing happens here: the contract says what is true of a flow group after any connects and any cutting of its entries into cycles,
+/// whatever its application answers.
+///
+/// The inputs of each connection with their outputs are a run of the TCP step from its opening on. No more than 64 connections live. No
+/// accepted frame is lost, doubled or moved: in wire order the segments of connections and the strays are the accepted frames. A
+/// connection has only segments of its flow, and has them in wire order; so stand the strays, each with its disposition and its answer.
+/// What a connection does depends on the entries from its opening on, and its journal is legal for the cutting. One that gave no call in
+/// a round gives none in the next. Where what is told only adds to the answer, as it does for each application, what TCP took is the
+/// beginning of the answer. What an application was told are the bytes of the delivered parts, and begins the peer's stream where the peer
+/// agrees with itself.
+pub fn groups_are_sound()
+    ensures runs { AreRuns }
+    ensures few { FewLive }
+    ensures none_lost { NoneLost }
+    ensures own { HearOwn }
+    ensures in_order { HeardInOrder }
+    ensures strays { StraysInOrder }
+    ensures followed { AreFollowed }
+    ensures legal { AreLegal }
+    ensures quiet { QuietStays }
+    ensures answered { TookFronts }
+    ensures told { ToldStreams }
+{}

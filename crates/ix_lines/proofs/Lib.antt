@@ -1,0 +1,5 @@
+pub mod ReadLaws
+pub mod WriteLaws
+pub mod NameLaws
+pub mod LineLaws
+pub mod AgainLaws

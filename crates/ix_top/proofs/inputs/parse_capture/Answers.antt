@@ -1,5 +1,0 @@
-use Rattle.ix_top.proofs.Meanings.{Refuses-capture}
-use Rattle.ix_top.proofs.inputs.parse_capture.Goals as goal
-
-pub returns-in-Err-clause-err : goal.returns-in-Err-clause-err
-returns-in-Err-clause-err c = rw c.capture_status.ensures.status (Refuses-capture c.args.mac.now c.args.bytes.now c.in-Err.fault _ c.in-Err.ensures.read)

@@ -1,0 +1,10 @@
+pub mod SoFar
+pub mod Follows
+pub mod Live
+pub mod Complete
+pub mod Rule
+pub mod TextLaws
+pub mod TextRule
+pub mod ReadTrace
+pub mod LoopLaws
+pub mod WriteLaws

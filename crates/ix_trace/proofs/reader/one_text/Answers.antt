@@ -1,0 +1,5 @@
+use Rattle.ix_trace.proofs.ReadTrace.{one}
+use Rattle.ix_trace.proofs.reader.one_text.Goals as goal
+
+pub returns : goal.returns
+returns c = one

@@ -1,0 +1,7 @@
+use Rattle.std.proofs.Common.{◌≡◌, ◌++◌, drop, string_bytes}
+use Rattle.ix_lines.specs.Words.{text_of}
+use Rattle.ix_trace.specs.Sheet.{home_lines}
+use Rattle.ix_trace.proofs.text.push_homes.Given as goal
+
+abbrev pub invariant-loop-core : goal.invariant-loop-core
+invariant-loop-core l = string_bytes l.out ++ text_of (home_lines l.core (drop l.core l.homes)) ≡ string_bytes l.fn.out ++ text_of (home_lines 0 l.homes)

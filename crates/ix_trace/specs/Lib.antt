@@ -1,0 +1,4 @@
+pub mod Sheet
+pub mod Machine
+pub mod Reading
+pub mod Rule
