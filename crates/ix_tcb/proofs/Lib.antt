@@ -1,2 +1,2 @@
 pub mod NumberLemmas
-pub mod AwaitLemmas
+pub mod OpeningLemmas

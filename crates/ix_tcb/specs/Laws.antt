@@ -6,7 +6,7 @@ use Rattle.ix_tcpdef.specs.Step.{listening, step}
 use Rattle.ix_tcpdef.specs.declared.types.Cfg.{Cfg}
 use Rattle.ix_tcpdef.specs.declared.types.Connection.{Connection}
 use Rattle.ix_tcpdef.specs.declared.types.Input.{Input}
-use Rattle.ix_tcb.specs.Stands.{AwaitsSyn}
+use Rattle.ix_tcb.specs.Stands.{HasOpened}
 use Rattle.ix_tcpdef.specs.Numbers.{number, ahead, is_past, is_at_or_past}
 
 -- Where the position q is not before p, it is as far from it as its number.
@@ -32,10 +32,10 @@ GoesOn = (start p n : ℕ) → number start (p + n) ≡ (number start p + n) % 2
 abbrev pub FindsPosition : Type 0
 FindsPosition = (start p x : ℕ) → x < 2 ^ 32 → number start (p + ahead (number start p) x) ≡ x
 
--- ## Handshakes
--- Before its opening a connection is not in SYN-RECEIVED, and each step keeps that in SYN-RECEIVED the SYN is in flight.
-abbrev pub BeginsAwaiting : Type 0
-BeginsAwaiting = (flow : Flow) (peer_mac : List ℕ) (iss : ℕ) → AwaitsSyn (listening flow peer_mac iss)
+-- ## Openings
+-- A connection before its opening opens in order, and each step keeps that.
+abbrev pub BeginsOpening : Type 0
+BeginsOpening = (flow : Flow) (peer_mac : List ℕ) (iss : ℕ) → HasOpened (listening flow peer_mac iss)
 
-abbrev pub StepsAwait : Type 0
-StepsAwait = (cfg : Cfg) (w : Connection) (input : Input) (now : ℕ) → AwaitsSyn w → AwaitsSyn (step cfg w input now).connection
+abbrev pub StepsOpen : Type 0
+StepsOpen = (cfg : Cfg) (w : Connection) (input : Input) (now : ℕ) → HasOpened w → HasOpened (step cfg w input now).connection

@@ -1,7 +1,8 @@
 -- The numbers that stand for a connection (RFC 9293, sections 3.3.1 and 3.4).
-use Rattle.std.specs.Prelude.{◌≡◌, ℕ, ◌-◌, ◌<◌, true, List, length, drop, map}
+use Rattle.std.specs.Prelude.{◌≡◌, ℕ, ◌-◌, true, List, [], length, drop, map}
 use Rattle.ix_tcpdef.specs.Numbers.{number}
-use Rattle.ix_tcpdef.specs.Connection.{snd_una, snd_nxt, rcv_nxt, queued, is_syn_received}
+use Rattle.ix_tcpdef.specs.Connection.{snd_una, snd_nxt, rcv_nxt, queued, is_listen, is_syn_received}
+use Rattle.ix_tcpdef.specs.declared.types.State.{State}
 use Rattle.ix_tcpdef.specs.declared.types.Connection.{Connection}
 use Rattle.ix_tcpdef.specs.declared.types.HeldSegment.{HeldSegment}
 use Rattle.ix_tcpdef.specs.declared.types.HeldHead.{HeldHead}
@@ -51,6 +52,10 @@ abbrev pub send_queue : Connection → List ℕ
 send_queue w = drop (w.una - 1) w.sent
 
 -- ## What is asked of a connection beside its standing condition
--- in SYN-RECEIVED the SYN is in flight
-abbrev pub AwaitsSyn : Connection → Type 0
-AwaitsSyn w = is_syn_received w.state ≡ true → w.una < w.nxt
+-- Before its opening nothing was given to be sent, and in SYN-RECEIVED the SYN alone was sent and is not acknowledged.
+pub record OpensInOrder (state : State) (una nxt : ℕ) (sent : List ℕ) : Type 0 where
+  pub listening : is_listen state ≡ true → sent ≡ []
+  pub synchronizing : is_syn_received state ≡ true → (una ≡ 0) × (nxt ≡ 1)
+
+abbrev pub HasOpened : Connection → Type 0
+HasOpened w = OpensInOrder w.state w.una w.nxt w.sent

@@ -1,5 +1,5 @@
 // Numbers modulo 2^32 against the positions that they stand for.
-ghost use Rattle.ix_tcb.specs.Laws.{CountsAhead, TestsPast, TestsAtOrPast, TellsApart, GoesOn, FindsPosition, BeginsAwaiting, StepsAwait};
+ghost use Rattle.ix_tcb.specs.Laws.{CountsAhead, TestsPast, TestsAtOrPast, TellsApart, GoesOn, FindsPosition, BeginsOpening, StepsOpen};
 
 /// Nothing happens here: the contract says how numbers modulo 2^32 are read as positions. Two positions less than 2^32 apart are as far
 /// apart as their numbers, going up, and equal where these are; less than 2^31 apart they compare as their numbers do. The number of a
@@ -13,9 +13,9 @@ pub fn numbers_stand_for_positions()
     ensures found { FindsPosition }
 {}
 
-/// Nothing happens here: the contract says that in SYN-RECEIVED the SYN is in flight, from a connection's opening on, whatever happens to
-/// it. That makes a connection's number SND.UNA - 1 what its numbers say where nothing is in flight.
-pub fn handshakes_await()
-    ensures begins { BeginsAwaiting }
-    ensures steps { StepsAwait }
+/// Nothing happens here: the contract says that before its opening nothing was given to a connection, and that in SYN-RECEIVED the SYN alone
+/// was sent and is not acknowledged, whatever happened to it from its beginning on. That tells position 0 from position 2^32 there.
+pub fn openings_stand()
+    ensures begins { BeginsOpening }
+    ensures steps { StepsOpen }
 {}

@@ -5,7 +5,7 @@ mod fresh;
 mod laws;
 
 pub use fresh::unopened;
-pub use laws::{handshakes_await, numbers_stand_for_positions};
+pub use laws::{numbers_stand_for_positions, openings_stand};
 
 #[cfg(test)]
 mod tests;

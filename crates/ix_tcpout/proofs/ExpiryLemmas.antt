@@ -1,5 +1,5 @@
 -- What a due timer does over numbers stands for what it does to the connection.
-use Rattle.std.proofs.Common.{◌≡◌, ℕ, ◌+◌, ◌-◌, ◌%◌, ◌^◌, ◌<◌, ◌≤◌, Bool, true, false, if◌then◌else◌, List, [], ◌∷◌, arith, refl, ap, sym, ◌∙◌, inl, inr}
+use Rattle.std.proofs.Common.{◌≡◌, ℕ, ◌+◌, ◌-◌, ◌%◌, ◌^◌, ◌≤◌, Bool, true, false, if◌then◌else◌, List, [], ◌∷◌, arith, refl, ap, sym, ◌∙◌, inl, inr}
 use Rattle.std.specs.Prelude.{nat_lt, nat_le, ◌&&◌, not, Option, Some, None}
 use Rattle.std.proofs.lemmas.Bool.{cases_Bool}
 use Rattle.std.proofs.lemmas.Grind.{common_steps}
@@ -19,7 +19,7 @@ use Rattle.ix_tcpdef.specs.declared.types.Input.TheVariants as inputs
 use Rattle.ix_tcpdef.specs.declared.types.Output.TheVariants as outputs
 use Rattle.ix_tcpdef.specs.declared.types.Told.TheVariants as told
 use Rattle.ix_tcpdef.specs.declared.types.TheConstants.{ACK}
-use Rattle.ix_tcb.specs.Stands.{tcb_of, send_queue, AwaitsSyn}
+use Rattle.ix_tcb.specs.Stands.{tcb_of, send_queue, HasOpened}
 use Rattle.ix_tcpout.specs.Heads.{again_in}
 use Rattle.ix_tcpout.specs.Given.{frame_of, outputs_of, has_ended, start}
 use Rattle.ix_tcpout.specs.Sending.{IsSending}
@@ -113,15 +113,15 @@ probed_as cfg now w least s =
     }
 
 -- where nothing is in flight, the SYN was acknowledged
-acknowledged : (s : State) (w : Connection) → w.state ≡ s → is_alive s ≡ true → (is_syn_received s ≡ true → w.una < w.nxt) → IsSending w → w.una ≡ w.nxt → 1 ≤ w.una
+acknowledged : (s : State) (w : Connection) → w.state ≡ s → is_alive s ≡ true → (is_syn_received s ≡ true → (w.una ≡ 0) × (w.nxt ≡ 1)) → IsSending w → w.una ≡ w.nxt → 1 ≤ w.una
 acknowledged st.Listen w is alive syn s same = cc
 acknowledged st.Closed w is alive syn s same = cc
 acknowledged st.SynSent w is alive syn s same = let one : w.nxt ≡ 1 = s.sender.syn (ap is_syn_sent is) in omega arith
-acknowledged st.SynReceived w is alive syn s same = let before : w.una < w.nxt = syn refl in omega arith
+acknowledged st.SynReceived w is alive syn s same = let first : w.una ≡ 0 = (syn refl).0 in let next : w.nxt ≡ 1 = (syn refl).1 in omega arith
 acknowledged _ w is alive syn s same = s.sender.stream (ap carries is)
 
 -- ## All
-fired_as : (cfg : Cfg) (now : ℕ) (w : Connection) → AwaitsSyn w → is_due w.deadline now ≡ true → IsSending w → FiresAs w (fired cfg now (tcb_of w)) (expired cfg now (start w))
+fired_as : (cfg : Cfg) (now : ℕ) (w : Connection) → HasOpened w → is_due w.deadline now ≡ true → IsSending w → FiresAs w (fired cfg now (tcb_of w)) (expired cfg now (start w))
 unfolding fired expired
 fired_as cfg now w syn due s =
     rw due (elim (cases_Bool (is_time_wait w.state)) [
@@ -131,11 +131,11 @@ fired_as cfg now w syn due s =
         | inr rests ↦ rw rests
             (let order : w.una ≤ w.nxt = s.sender.order in
             let same : w.una ≡ w.nxt = grind (arith, common_steps, rests) in
-            probed_as cfg now w (acknowledged w.state w refl s.alive syn s same) s)
+            probed_as cfg now w (acknowledged w.state w refl s.alive syn.synchronizing s same) s)
       ])
     ])
 
-pub expiry_stands : (cfg : Cfg) (now : ℕ) (w : Connection) → IsKept cfg w → AwaitsSyn w → is_due w.deadline now ≡ true → is_alive w.state ≡ true → FiresAs w (fired cfg now (tcb_of w)) (step cfg w inputs.Timer now)
+pub expiry_stands : (cfg : Cfg) (now : ℕ) (w : Connection) → IsKept cfg w → HasOpened w → is_due w.deadline now ≡ true → is_alive w.state ≡ true → FiresAs w (fired cfg now (tcb_of w)) (step cfg w inputs.Timer now)
 unfolding step stepped
 expiry_stands cfg now w k syn due alive = rw alive (fired_as cfg now w syn due (sending cfg w alive k))
 

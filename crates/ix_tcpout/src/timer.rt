@@ -7,7 +7,7 @@ ghost use Rattle.ix_tcpdef.specs.Flush.{backed_off as backed_off_of, is_due};
 ghost use Rattle.ix_tcpout.specs.Expiry.{timeout_in, closed, collapse_in, counted, retransmission, probe as probe_part, fired};
 ghost use Rattle.ix_tcpdef.specs.declared.types.Connection.{Connection};
 ghost use Rattle.ix_tcpdef.specs.declared.types.Input.TheVariants as inputs;
-ghost use Rattle.ix_tcb.specs.Stands.{tcb_of, send_queue, AwaitsSyn};
+ghost use Rattle.ix_tcb.specs.Stands.{tcb_of, send_queue, HasOpened};
 ghost use Rattle.ix_tcpout.specs.Given.{outputs_of, has_ended, LiesIn};
 
 use crate::clock::{is_alive, later};
@@ -143,10 +143,10 @@ fn fire(cfg: &Cfg, now: u64, tcb: &mut Tcb) -> Outs
 /// and ranges of the send queue, its event, and whether it ended.
 pub fn expire(cfg: &Cfg, tcb: &mut Tcb, now: u64) -> Outs
     requires { is_due tcb.old.deadline now ≡ true }
-    ensures numbers { (w : Connection) → IsKept cfg.now w → AwaitsSyn w → tcb.old ≡ tcb_of w → tcb.new ≡ tcb_of (step cfg.now w inputs.Timer now).connection }
-    ensures outputs { (w : Connection) → IsKept cfg.now w → AwaitsSyn w → tcb.old ≡ tcb_of w → outputs_of (send_queue w) result ≡ (step cfg.now w inputs.Timer now).outputs }
+    ensures numbers { (w : Connection) → IsKept cfg.now w → HasOpened w → tcb.old ≡ tcb_of w → tcb.new ≡ tcb_of (step cfg.now w inputs.Timer now).connection }
+    ensures outputs { (w : Connection) → IsKept cfg.now w → HasOpened w → tcb.old ≡ tcb_of w → outputs_of (send_queue w) result ≡ (step cfg.now w inputs.Timer now).outputs }
     ensures ranges { All (LiesIn tcb.old.queued) result.entries.items }
-    ensures ended { (w : Connection) → IsKept cfg.now w → AwaitsSyn w → tcb.old ≡ tcb_of w → result.ended ≡ has_ended w (step cfg.now w inputs.Timer now).connection }
+    ensures ended { (w : Connection) → IsKept cfg.now w → HasOpened w → tcb.old ≡ tcb_of w → result.ended ≡ has_ended w (step cfg.now w inputs.Timer now).connection }
 {
     if !is_alive(tcb.state) {
         return Outs::nothing();
