@@ -1,0 +1,61 @@
+-- The numbers that stand for a connection (RFC 9293, sections 3.3.1 and 3.4).
+use Rattle.std.specs.Prelude.{◌≡◌, ℕ, ◌-◌, true, List, [], length, drop, map}
+use Rattle.ix_tcpdef.specs.Numbers.{number}
+use Rattle.ix_tcpdef.specs.Connection.{snd_una, snd_nxt, rcv_nxt, queued, is_listen, is_syn_received}
+use Rattle.ix_tcpdef.specs.declared.types.State.{State}
+use Rattle.ix_tcpdef.specs.declared.types.Connection.{Connection}
+use Rattle.ix_tcpdef.specs.declared.types.HeldSegment.{HeldSegment}
+use Rattle.ix_tcpdef.specs.declared.types.HeldHead.{HeldHead}
+use Rattle.ix_tcpdef.specs.declared.types.Tcb.{Tcb}
+
+-- a held segment without its bytes
+abbrev pub head_of : ℕ → HeldSegment → HeldHead
+head_of irs s = record { at = number irs s.at; len = length s.bytes; fin = s.fin }
+
+-- the numbers of a connection
+abbrev pub tcb_of : Connection → Tcb
+tcb_of w =
+    record {
+      flow = w.flow;
+      peer_mac = w.peer_mac;
+      state = w.state;
+      iss = w.iss;
+      irs = w.irs;
+      una = snd_una w;
+      nxt = snd_nxt w;
+      wnd = w.wnd;
+      wl1 = w.wl1;
+      wl2 = w.wl2;
+      rcv_nxt = rcv_nxt w;
+      unread = w.unread;
+      mss = w.mss;
+      queued = queued w;
+      expiries = w.expiries;
+      deadline = w.deadline;
+      held = record { items = map (head_of w.irs) w.held };
+      cwnd = w.cwnd;
+      ssthresh = w.ssthresh;
+      dups = w.dups;
+      recovering = w.recovering;
+      resend = w.resend;
+      fin_wanted = w.fin_wanted;
+      fin_sent = w.fin_sent;
+      wants = w.wants;
+      ack_owed = w.ack_owed;
+      knocked = w.knocked;
+      accepted = w.accepted;
+      shut = w.shut;
+    }
+
+-- the bytes of the send queue from SND.UNA on, sent or not
+abbrev pub send_queue : Connection → List ℕ
+send_queue w = drop (w.una - 1) w.sent
+
+-- ## What is asked of a connection beside its standing condition
+-- Before its opening nothing was given to be sent, and in SYN-RECEIVED the SYN alone was sent and is not acknowledged.
+pub record OpensInOrder (state : State) (una nxt : ℕ) (sent : List ℕ) : Type 0 where
+  pub listening : is_listen state ≡ true → sent ≡ []
+  pub synchronizing : is_syn_received state ≡ true → (una ≡ 0) × (nxt ≡ 1)
+
+abbrev pub HasOpened : Connection → Type 0
+HasOpened w = OpensInOrder w.state w.una w.nxt w.sent

@@ -1,0 +1,8 @@
+pub mod FrameLemmas
+pub mod AgainLemmas
+pub mod TimerLemmas
+pub mod SegmentLemmas
+pub mod PartLemmas
+pub mod ExpiryLemmas
+pub mod CycleLemmas
+pub mod RangeLemmas

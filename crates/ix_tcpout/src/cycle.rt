@@ -1,0 +1,207 @@
+// What a connection sends at the end of a cycle.
+ghost use Rattle.std.specs.Prelude.{◌≡◌, ◌≤◌, ◌<◌, ◌+◌, ◌-◌, ◌*◌, ◌^◌, ◌++◌, true, false, [], length};
+ghost use Rattle.arrayvec.specs.ArrayVec.{array_vec_len};
+ghost use Rattle.ix_tcpdef.specs.Flush.{resends as resends_test, sends as sends_test};
+ghost use Rattle.ix_tcpout.specs.Parts.{
+  work,
+  flight as flight_of,
+  unsent_bytes as unsent_of,
+  sendable_bytes as sendable_of,
+  segments,
+  resend_part,
+  data_part,
+  fin_part,
+  ack_part,
+  arm_part,
+  all_parts,
+};
+ghost use Rattle.std.specs.List.{All};
+ghost use Rattle.ix_tcpdef.specs.Sound.{IsKept, FitsPeer};
+ghost use Rattle.ix_tcpdef.specs.Step.{step};
+ghost use Rattle.ix_tcpdef.specs.declared.types.Connection.{Connection};
+ghost use Rattle.ix_tcpdef.specs.declared.types.Input.TheVariants as inputs;
+ghost use Rattle.ix_tcb.specs.Stands.{tcb_of, send_queue};
+ghost use Rattle.ix_tcpout.specs.Given.{outputs_of, has_ended, LiesIn};
+
+use crate::clock::{is_alive, later};
+use crate::heads::{bare, bytes};
+use crate::outs::{Entries, Outs};
+use crate::resend::again;
+use arrayvec::ArrayVec;
+use ix_tcpdef::{ACK, Cfg, FIN, State, Tcb};
+
+/// How many positions are in flight.
+pub fn flight(tcb: &Tcb) -> u32
+    ensures { result ≡ flight_of tcb.now }
+{
+    tcb.nxt.wrapping_sub(tcb.una)
+}
+
+/// How many bytes of the send queue were never sent.
+fn unsent_bytes(tcb: &Tcb) -> u32
+    ensures { result ≡ unsent_of tcb.now }
+{
+    let queued = tcb.queued;
+    queued.saturating_sub(flight(tcb))
+}
+
+/// How many of them both windows let out (RFC 5681, section 3.1).
+fn sendable_bytes(tcb: &Tcb) -> u32
+    ensures { result ≡ sendable_of tcb.now }
+{
+    let usable = tcb.wnd.min(tcb.cwnd).saturating_sub(flight(tcb));
+    usable.min(unsent_bytes(tcb))
+}
+
+fn resends(state: State) -> bool
+    ensures { result ≡ resends_test state }
+{
+    matches!(
+        state,
+        State::Established | State::CloseWait | State::FinWait1 | State::Closing | State::LastAck
+    )
+}
+
+fn sends(state: State) -> bool
+    ensures { result ≡ sends_test state }
+{
+    matches!(
+        state,
+        State::Established | State::CloseWait | State::FinWait1 | State::LastAck
+    )
+}
+
+/// First: the resend that fast retransmit asked for.
+#[tactic(auto, unfolding(crate::specs::Parts::resend_part))]
+fn send_again(cfg: &Cfg, tcb: &mut Tcb, entries: &mut Entries)
+    requires { entries.old.items ≡ [] }
+    ensures few { array_vec_len entries.new ≤ 1 }
+    ensures mss { tcb.new.mss ≡ tcb.old.mss }
+    ensures window { tcb.new.wnd ≡ tcb.old.wnd }
+    ensures numbers { tcb.new ≡ (resend_part cfg.now (work tcb.old entries.old.items)).numbers }
+    ensures entries { entries.new.items ≡ (resend_part cfg.now (work tcb.old entries.old.items)).entries }
+{
+    if !(tcb.resend && resends(tcb.state)) {
+        return;
+    }
+    entries.push(again(cfg, tcb));
+    tcb.resend = false;
+}
+
+/// So many bytes of the send queue from this place on, in segments.
+#[tactic(auto, using(crate::proofs::SegmentLemmas::first_segments))]
+fn push_bytes(cfg: &Cfg, tcb: &Tcb, from: u32, left: u32, entries: &mut Entries)
+    requires mss { 64 ≤ tcb.now.mss }
+    requires few { array_vec_len entries.old ≤ 1 }
+    requires window { left ≤ 65535 }
+    requires place { from + left < 2 ^ 32 }
+    ensures room { array_vec_len entries.new ≤ 1025 }
+    ensures value { entries.new.items ≡ entries.old.items ++ segments cfg.now tcb.now left from left }
+{
+    let mss = u32::from(tcb.mss);
+    let mut from = from;
+    let mut left = left;
+    while left > 0 {
+        let n = mss.min(left);
+        entries.push(bytes(cfg, tcb, from, n as u16));
+        from += n;
+        left -= n;
+    }
+}
+
+/// Second: data that both windows let out.
+#[tactic(auto, unfolding(crate::specs::Parts::data_part))]
+fn send_data(cfg: &Cfg, tcb: &mut Tcb, entries: &mut Entries)
+    requires mss { 64 ≤ tcb.old.mss }
+    requires window { tcb.old.wnd ≤ 65535 }
+    requires few { array_vec_len entries.old ≤ 1 }
+    ensures room { array_vec_len entries.new ≤ 1025 }
+    ensures numbers { tcb.new ≡ (data_part cfg.now (work tcb.old entries.old.items)).numbers }
+    ensures entries { entries.new.items ≡ (data_part cfg.now (work tcb.old entries.old.items)).entries }
+{
+    if !sends(tcb.state) {
+        return;
+    }
+    let n = sendable_bytes(tcb);
+    push_bytes(cfg, tcb, flight(tcb), n, entries);
+    tcb.nxt = tcb.nxt.wrapping_add(n);
+}
+
+/// Third: the FIN, behind all data.
+#[tactic(auto, unfolding(crate::specs::Parts::fin_part))]
+fn send_fin(cfg: &Cfg, tcb: &mut Tcb, entries: &mut Entries)
+    requires { array_vec_len entries.old ≤ 1025 }
+    ensures numbers { tcb.new ≡ (fin_part cfg.now (work tcb.old entries.old.items)).numbers }
+    ensures entries { entries.new.items ≡ (fin_part cfg.now (work tcb.old entries.old.items)).entries }
+{
+    let due = sends(tcb.state) && tcb.fin_wanted && !tcb.fin_sent && unsent_bytes(tcb) == 0;
+    if !due {
+        return;
+    }
+    entries.push(bare(cfg, tcb, tcb.nxt, FIN + ACK));
+    tcb.nxt = tcb.nxt.wrapping_add(1);
+    tcb.fin_sent = true;
+}
+
+/// Fourth: an acknowledgement that is owed, where nothing carried it.
+#[tactic(auto, unfolding(crate::specs::Parts::ack_part))]
+fn send_ack(cfg: &Cfg, tcb: &mut Tcb, entries: &mut Entries)
+    ensures numbers { tcb.new ≡ (ack_part cfg.now (work tcb.old entries.old.items)).numbers }
+    ensures entries { entries.new.items ≡ (ack_part cfg.now (work tcb.old entries.old.items)).entries }
+{
+    let owed = tcb.ack_owed && entries.is_empty();
+    tcb.ack_owed = false;
+    if !owed {
+        return;
+    }
+    entries.push(bare(cfg, tcb, tcb.nxt, ACK));
+}
+
+/// Fifth: the deadline of the retransmission timer, or of the persist timer.
+#[tactic(auto, unfolding(crate::specs::Parts::arm_part))]
+fn arm(cfg: &Cfg, now: u64, tcb: &mut Tcb)
+    ensures { tcb.new ≡ arm_part cfg.now now tcb.old }
+{
+    let waits = tcb.wnd == 0 && (unsent_bytes(tcb) > 0 || tcb.wants);
+    if tcb.deadline.is_none() && (tcb.una != tcb.nxt || waits) {
+        tcb.deadline = Some(later(now, cfg.rto));
+    }
+}
+
+/// All parts in their order.
+#[tactic(auto, unfolding(crate::specs::Parts::all_parts))]
+fn send_all(cfg: &Cfg, tcb: &mut Tcb, now: u64, entries: &mut Entries)
+    requires mss { 64 ≤ tcb.old.mss }
+    requires window { tcb.old.wnd ≤ 65535 }
+    requires none { entries.old.items ≡ [] }
+    ensures numbers { tcb.new ≡ (all_parts cfg.now now (work tcb.old [])).numbers }
+    ensures entries { entries.new.items ≡ (all_parts cfg.now now (work tcb.old [])).entries }
+{
+    send_again(cfg, tcb, entries);
+    send_data(cfg, tcb, entries);
+    send_fin(cfg, tcb, entries);
+    send_ack(cfg, tcb, entries);
+    arm(cfg, now, tcb);
+}
+
+/// The end of a cycle: a resend, data that both windows let out, the FIN behind it, an acknowledgement that is owed, and the deadline. Of
+/// every connection that the numbers stand for it leaves the numbers after its step, and gives that step's segments as heads and ranges
+/// of the send queue. Its work is linear in these segments.
+pub fn flush(cfg: &Cfg, tcb: &mut Tcb, now: u64) -> Outs
+    requires { FitsPeer tcb.old.state tcb.old.mss tcb.old.wnd tcb.old.cwnd tcb.old.ssthresh }
+    ensures numbers { (w : Connection) → IsKept cfg.now w → tcb.old ≡ tcb_of w → tcb.new ≡ tcb_of (step cfg.now w inputs.Flush now).connection }
+    ensures outputs { (w : Connection) → IsKept cfg.now w → tcb.old ≡ tcb_of w → outputs_of (send_queue w) result ≡ (step cfg.now w inputs.Flush now).outputs }
+    ensures ranges { All (LiesIn tcb.old.queued) result.entries.items }
+    ensures ended { (w : Connection) → IsKept cfg.now w → tcb.old ≡ tcb_of w → result.ended ≡ has_ended w (step cfg.now w inputs.Flush now).connection }
+{
+    if !is_alive(tcb.state) {
+        return Outs::nothing();
+    }
+    let mut entries = ArrayVec::new();
+    send_all(cfg, tcb, now, &mut entries);
+    Outs {
+        entries,
+        told: None,
+        ended: false,
+    }
+}

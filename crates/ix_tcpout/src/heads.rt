@@ -1,0 +1,114 @@
+// Segments over numbers.
+ghost use Rattle.std.specs.Prelude.{◌≡◌, ◌<◌, ◌+◌, ◌-◌, ◌^◌};
+ghost use Rattle.ix_tcpdef.specs.Numbers.{number as number_of};
+ghost use Rattle.ix_tcpout.specs.Heads.{
+  bare as bare_of,
+  bytes as bytes_of,
+  syn as syn_of,
+  syn_ack as syn_ack_of,
+};
+
+use crate::outs::OutSeg;
+use ix_base::SegHead;
+use ix_tcpdef::{ACK, BEHIND_HEADER, BEHIND_SYN, Cfg, PSH, SYN, Tcb};
+
+/// The sequence number of a position.
+fn number(start: u32, position: u32) -> u32
+    ensures { result ≡ number_of start position }
+{
+    start.wrapping_add(position)
+}
+
+/// The window that is offered to the peer.
+fn window(cfg: &Cfg, tcb: &Tcb) -> u16
+    ensures { result ≡ cfg.now.window - tcb.now.unread }
+{
+    u32::from(cfg.window).saturating_sub(tcb.unread) as u16
+}
+
+/// A segment without a body that acknowledges what came.
+pub fn bare(cfg: &Cfg, tcb: &Tcb, seq: u32, flags: u8) -> OutSeg
+    ensures { result ≡ bare_of cfg.now tcb.now seq flags }
+{
+    let head = SegHead {
+        flow: tcb.flow,
+        peer_mac: tcb.peer_mac,
+        seq,
+        ack: tcb.rcv_nxt,
+        flags,
+        window: window(cfg, tcb),
+        mss: None,
+        len: 0,
+        at: BEHIND_HEADER,
+    };
+    OutSeg {
+        head,
+        from: 0,
+        to: 0,
+    }
+}
+
+/// So many bytes of the send queue from this place on. PSH is set where they end it.
+pub fn bytes(cfg: &Cfg, tcb: &Tcb, from: u32, len: u16) -> OutSeg
+    requires { from + len < 2 ^ 32 }
+    ensures { result ≡ bytes_of cfg.now tcb.now from len }
+{
+    let to = from + u32::from(len);
+    let flags = if to == tcb.queued { PSH + ACK } else { ACK };
+    let head = SegHead {
+        flow: tcb.flow,
+        peer_mac: tcb.peer_mac,
+        seq: tcb.una.wrapping_add(from),
+        ack: tcb.rcv_nxt,
+        flags,
+        window: window(cfg, tcb),
+        mss: None,
+        len,
+        at: BEHIND_HEADER,
+    };
+    OutSeg { head, from, to }
+}
+
+/// The SYN of an active opening.
+pub fn syn(cfg: &Cfg, tcb: &Tcb) -> OutSeg
+    ensures { result ≡ syn_of cfg.now tcb.now }
+{
+    let head = SegHead {
+        flow: tcb.flow,
+        peer_mac: tcb.peer_mac,
+        seq: number(tcb.iss, 0),
+        ack: 0,
+        flags: SYN,
+        window: window(cfg, tcb),
+        mss: Some(cfg.mss),
+        len: 0,
+        at: BEHIND_SYN,
+    };
+    OutSeg {
+        head,
+        from: 0,
+        to: 0,
+    }
+}
+
+/// The SYN-ACK of a passive opening.
+pub fn syn_ack(cfg: &Cfg, tcb: &Tcb) -> OutSeg
+    ensures { result ≡ syn_ack_of cfg.now tcb.now }
+{
+    let head = SegHead {
+        flow: tcb.flow,
+        peer_mac: tcb.peer_mac,
+        seq: number(tcb.iss, 0),
+        ack: tcb.rcv_nxt,
+        flags: SYN + ACK,
+        window: window(cfg, tcb),
+        mss: Some(cfg.mss),
+        len: 0,
+        at: BEHIND_SYN,
+    };
+    OutSeg {
+        head,
+        from: 0,
+        to: 0,
+    }
+}
