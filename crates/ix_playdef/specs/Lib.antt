@@ -1,0 +1,3 @@
+pub mod Own
+pub mod Clock
+pub mod Wire

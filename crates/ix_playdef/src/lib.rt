@@ -1,0 +1,10 @@
+//! One whole play, plainly: what it is as a function of its configuration, its capture and its wire list.
+#![tactic(auto)]
+
+mod clock;
+mod own;
+mod wire;
+
+pub use clock::clocks_of;
+pub use own::{initial_numbers, is_own, local_of};
+pub use wire::{GROUPS, Given, MAX_FRAME, entries_by_group, group_of_frame};
