@@ -2,9 +2,13 @@
 #![tactic(auto)]
 
 mod clock;
+mod order;
 mod own;
+#[cfg(test)]
+mod tests;
 mod wire;
 
 pub use clock::clocks_of;
+pub use order::{Phase, Reply, ReplyKey, in_order, sent_at};
 pub use own::{initial_numbers, is_own, local_of};
 pub use wire::{GROUPS, Given, MAX_FRAME, entries_by_group, group_of_frame};

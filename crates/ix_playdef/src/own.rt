@@ -171,3 +171,66 @@ pub fn initial_numbers(
     }
     Ok(Isns::new(pairs))
 }
+
+#[cfg(test)]
+mod tests {
+    use super::named_by_frame;
+    use ix_base::{Flow, Local};
+    use std::test::Fail;
+
+    const LOCAL: Local = Local {
+        mac: [2, 0, 0, 0, 0, 1],
+        ip: 0xa18e_6450,
+        port: 1766,
+    };
+
+    const FLOW: Flow = Flow {
+        remote: 0x4209_95bb,
+        local: 0xa18e_6450,
+        remote_port: 2794,
+        local_port: 1766,
+    };
+
+    // A SYN-ACK of the local side, whose checksums are not written.
+    const ANSWER: [u8; 54] = [
+        2, 0, 0, 0, 0, 2, 2, 0, 0, 0, 0, 1, 8, 0, 0x45, 0, 0, 0x28, 0, 0, 0x40, 0, 0x40, 0x06, 0,
+        0, 0xa1, 0x8e, 0x64, 0x50, 0x42, 0x09, 0x95, 0xbb, 0x06, 0xe6, 0x0a, 0xea, 0x51, 0xcc,
+        0xc1, 0x78, 0, 0, 0x10, 0x01, 0x50, 0x12, 0xfa, 0xf0, 0, 0, 0, 0,
+    ];
+
+    // One byte changed, and whether the frame still names its number: not tested are the destination, the checksums and the other
+    // flags; tested are the source, the type, the lengths, the protocol, fragments and the two flags.
+    const CHANGES: [(usize, u8, bool); 14] = [
+        (0, 9, true),
+        (24, 1, true),
+        (50, 1, true),
+        (47, 0x5a, true),
+        (11, 2, false),
+        (13, 6, false),
+        (14, 0x65, false),
+        (17, 0x29, false),
+        (20, 0x20, false),
+        (23, 17, false),
+        (29, 0x51, false),
+        (46, 0x40, false),
+        (47, 0x10, false),
+        (47, 0x02, false),
+    ];
+
+    #[test]
+    fn which_frames_name_a_number(rt: HostRuntime) -> Result<(), Fail> {
+        for (at, byte, names) in CHANGES {
+            let mut frame = ANSWER;
+            assert!(rt; at < 54);
+            frame[at] = byte;
+            let named = named_by_frame(&LOCAL, &frame);
+            let expected = if names {
+                Some((FLOW, 0x51cc_c178))
+            } else {
+                None
+            };
+            assert!(rt; named == expected, "place {at}: {byte}");
+        }
+        Ok(())
+    }
+}
