@@ -25,6 +25,11 @@ fn part(alloc: Global) -> Result<Part, Fail> {
     Ok(Part::new(buf, 2, to))
 }
 
+// Whether a value can be moved into another thread.
+fn sendable<T: Send>(value: T) -> T {
+    value
+}
+
 #[test]
 fn chunks_are_joined_and_let_go(rt: HostRuntime) -> Result<(), Fail> {
     let alloc = rt.alloc();
@@ -56,6 +61,7 @@ fn a_call_names_its_connection_and_carries_its_chunks(rt: HostRuntime) -> Result
         handle: HANDLE,
         chunks,
     };
+    let call = sendable(call);
     assert_eq!(rt; call.handle(), Some(HANDLE));
     assert_eq!(rt; call.chunks().len(), 1);
     assert!(rt; call.chunks()[0].id().is_some());
@@ -82,7 +88,7 @@ fn only_told_bytes_hold_a_buffer(rt: HostRuntime) -> Result<(), Fail> {
         cookie: 7,
         part: Some(part(rt.alloc())?),
     };
-    let part = told.into_part().ok_or("a part")?;
+    let part = sendable(told).into_part().ok_or("a part")?;
     assert_eq!(rt; part.bytes(), b"hello".as_slice());
     let ended = Event::Recv {
         cookie: 7,

@@ -1,5 +1,6 @@
 // What no clause says: that memory is enough, and the wheel against a plain ordered map, over long runs and at the ends of its levels.
 use crate::Deadlines;
+use crate::places::place_of;
 use std::alloc::Global;
 use std::collections::BTreeMap;
 use std::test::Fail;
@@ -20,9 +21,36 @@ fn plain_due(alloc: Global, plain: &mut BTreeMap<u32, u64>, now: u64) -> Result<
     Ok(keys)
 }
 
+// Whether a value can be moved into another thread.
+fn sendable<T: Send>(value: T) -> T {
+    value
+}
+
+#[test]
+fn places_follow_the_rule(rt: HostRuntime) {
+    for (clock, tick, place) in [
+        (70, 70, 0),
+        (70, 69, 0),
+        (0, 1, 2),
+        (0, 63, 64),
+        (0, 70, 66),
+        (63, 64, 66),
+        (64, 70, 7),
+        (0, 4096, 130),
+        (4095, 4096, 130),
+        (0, 68_719_476_735, 384),
+        (0, 68_719_476_736, 385),
+        (68_719_476_736, 68_719_476_737, 2),
+        (68_719_476_735, 68_719_476_736, 385),
+        (0, u64::MAX, 385),
+    ] {
+        assert_eq!(rt; place_of(clock, tick), place, "{tick} at {clock}");
+    }
+}
+
 #[test]
 fn keys_come_by_tick_and_key(rt: HostRuntime) -> Result<(), Fail> {
-    let mut deadlines = Deadlines::new(rt.alloc());
+    let mut deadlines = sendable(Deadlines::new(rt.alloc()));
     for (key, tick) in [(3, 70), (1, 70), (2, 4096), (9, 68_719_476_736)] {
         deadlines.set(key, tick)?;
     }
@@ -57,7 +85,7 @@ fn a_replaced_key_has_its_new_tick_alone(rt: HostRuntime) -> Result<(), Fail> {
 fn set_powers(deadlines: &mut Deadlines, plain: &mut BTreeMap<u32, u64>) -> Result<(), Fail> {
     let mut key = 0u32;
     for level in 0..11u32 {
-        let power = 1u64 << (6 * level).min(63);
+        let power = 1u64 << (6 * level);
         for tick in [power - 1, power, power.saturating_add(1)] {
             deadlines.set(key, tick)?;
             plain.insert(key, tick)?;
@@ -75,7 +103,7 @@ fn ticks_at_the_ends_of_levels_come_one_by_one(rt: HostRuntime) -> Result<(), Fa
     let mut plain = BTreeMap::new(rt.alloc());
     set_powers(&mut deadlines, &mut plain)?;
     for level in 0..11u32 {
-        let power = 1u64 << (6 * level).min(63);
+        let power = 1u64 << (6 * level);
         for now in [power - 1, power, power.saturating_add(1)] {
             let due = deadlines.due(now)?;
             assert_eq!(rt;
