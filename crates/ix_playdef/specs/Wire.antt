@@ -1,5 +1,5 @@
 -- What a flow group is given of a wire list, where every frame of at most 2,048 bytes is accepted.
-use Rattle.std.specs.Prelude.{◌≡◌, ℕ, ◌+◌, ◌<◌, List, [], ◌∷◌, ◌++◌, length, map, slice_get, slice_index_or, Bool, not, ◌&&◌, ◌==◌, nat_lt, if◌then◌else◌, Option, Some, None}
+use Rattle.std.specs.Prelude.{◌≡◌, ℕ, ◌+◌, ◌<◌, List, [], ◌∷◌, ◌++◌, length, slice_get, slice_index_or, Bool, not, ◌&&◌, ◌==◌, nat_lt, if◌then◌else◌, Option, Some, None}
 use Rattle.ix_base.specs.declared.id.CoreId.{CoreId}
 use Rattle.ix_groupdef.specs.Group.{Cycle, Frames, Time as TimeCycle}
 use Rattle.ix_hash.specs.Group.{group_of_named}
@@ -38,13 +38,15 @@ given_from frames group w (e ∷ es) = given_by frames group w e ++ given_from f
 abbrev pub group_entries : List (List ℕ) → ℕ → List Entry → List Given
 group_entries frames group entries = given_from frames group 0 entries
 
--- Each makes one cycle of the group.
-abbrev pub cycle_of : CoreId → Given → Cycle
-cycle_of core (Frame taken) = Frames core (taken ∷ [])
-cycle_of core (Time w t) = TimeCycle core w t
+-- ## Cycles
+-- Each makes one cycle of its group on this core; a frame that is too long makes none.
+abbrev pub cycle_by : CoreId → Given → List Cycle
+cycle_by core (Frame taken) = if nat_lt MAX_FRAME (length taken.frame) then [] else Frames core (taken ∷ []) ∷ []
+cycle_by core (Time w t) = TimeCycle core w t ∷ []
 
 abbrev pub cycles_of : CoreId → List Given → List Cycle
-cycles_of core given = map (cycle_of core) given
+cycles_of core [] = []
+cycles_of core (g ∷ gs) = cycle_by core g ++ cycles_of core gs
 
 -- ## Lists of what each group is given
 pub record AreEmpty (lists : List (List Given)) : Type 0 where

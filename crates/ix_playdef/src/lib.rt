@@ -4,6 +4,7 @@
 mod clock;
 mod order;
 mod own;
+mod run;
 #[cfg(test)]
 mod tests;
 mod wire;
@@ -11,4 +12,5 @@ mod wire;
 pub use clock::clocks_of;
 pub use order::{Phase, Reply, ReplyKey, in_order, sent_at};
 pub use own::{initial_numbers, is_own, local_of};
+pub use run::run_given;
 pub use wire::{GROUPS, Given, MAX_FRAME, entries_by_group, group_of_frame};
