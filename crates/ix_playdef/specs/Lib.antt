@@ -1,0 +1,4 @@
+pub mod Own
+pub mod Clock
+pub mod Wire
+pub mod Order

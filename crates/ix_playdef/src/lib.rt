@@ -1,0 +1,16 @@
+//! One whole play, plainly: what it is as a function of its configuration, its capture and its wire list.
+#![tactic(auto)]
+
+mod clock;
+mod order;
+mod own;
+mod run;
+#[cfg(test)]
+mod tests;
+mod wire;
+
+pub use clock::clocks_of;
+pub use order::{Phase, Reply, ReplyKey, in_order, sent_at};
+pub use own::{initial_numbers, is_own, local_of};
+pub use run::run_given;
+pub use wire::{GROUPS, Given, MAX_FRAME, entries_by_group, group_of_frame};
