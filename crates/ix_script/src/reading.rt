@@ -13,8 +13,8 @@ use std::alloc::Global;
 /// Reads the bytes of a script for a play under a configuration, over a capture, of which `own` says for each record whether it is the
 /// local side's own. Answers the whole wire list, or the first faulty line with the first kind, in the order of `ScriptKind`, that
 /// applies to it; a tag that has no move is told last, at the line of the first such one. Between two lines of a script of version 1 the
-/// four flow groups of a class are on one core. Each entry names a record, a flow group and a core that are there, and the tags and moves
-/// of each flow group alternate.
+/// four flow groups of a class are on one core. Each entry names a record, a flow group and a core that are there, the tags and moves of
+/// each flow group alternate, and there are at most 2^32 entries.
 pub fn read_script(
     alloc: Global,
     bytes: &[u8],

@@ -1,6 +1,6 @@
 -- The four groups of a class stay together, line after line.
 use Rattle.std.proofs.Common.{◌≡◌, ◌<◌, ◌+◌, ℕ, List, [], ◌∷◌, length, Bool, true, false, refl, ap, subst, sym, ◌∙◌, arith}
-use Rattle.std.specs.Prelude.{◌||◌, if◌then◌else◌, nat_lt, not, Result, Ok, All, slice_set, take}
+use Rattle.std.specs.Prelude.{◌||◌, nat_lt, not, Ok, All, slice_set, take}
 use Rattle.std.specs.List.{list_all, list_any}
 use Rattle.std.proofs.lemmas.List.{length-take}
 use Rattle.ix_base.specs.declared.id.CoreId.{CoreId}
@@ -10,7 +10,6 @@ use Rattle.ix_cp.proofs.PlanLaws.{add_plan-are_moves, revoke_plan-are_moves}
 use Rattle.ix_wire.specs.declared.command.Command.{Command}
 use Rattle.ix_wire.specs.declared.command.Command.TheVariants as commands
 use Rattle.ix_wire.specs.declared.command.Version.TheVariants.{One}
-use Rattle.ix_wire.specs.declared.fault.ScriptKind.{ScriptKind}
 use Rattle.ix_wire.specs.declared.fault.ScriptKind.TheVariants as kinds
 use Rattle.ix_wire.specs.declared.progress.Progress.{Progress}
 use Rattle.ix_wire.specs.Chain.{◌>>=◌}
@@ -23,7 +22,7 @@ use Rattle.ix_wire.specs.Text.{lines_of, words_of}
 use Rattle.ix_wire.specs.Wire.{with_all_each, with_frames}
 use Rattle.ix_wire.specs.Classes.{AreTogether, KeepsClasses, after}
 use Rattle.ix_wire.proofs.CommandRanges.{IsVersionFirst, command_of-known}
-use Rattle.ix_wire.proofs.Effects.{Puts, Puts-told, passed, unless, with_plan-puts, with_steps-puts, with_tags-puts}
+use Rattle.ix_wire.proofs.Effects.{Puts, Puts-told, passed, skipped, unless, with_plan-puts, with_steps-puts, with_tags-puts}
 use Rattle.ix_wire.proofs.PutLaws.{length-put_all, length-put_plan, opening_cores-count, opening_cores-together, put_all, put_all-together, put_plan, put_plan-together}
 
 -- What holds between two lines: there are 512 groups, and the classes are together before the first line that says something, and as long
@@ -143,15 +142,10 @@ run_kept own line commands.Settle p q range first kept e =
 run_kept own line (commands.Add core) p q range first kept e = add_kept line core (begun p) q refl (started p kept) e
 run_kept own line (commands.Revoke core) p q range first kept e = revoke_kept line core (begun p) q refl (started p kept) e
 
-skipped : (b : Bool) (p q : Progress) (r : Result Progress ScriptKind) → (r ≡ Ok q → IsKept q) → IsKept p → (if b then Ok p else r) ≡ Ok q
-    → IsKept q
-skipped true p q r rest kept e = let is : p ≡ q = cc in subst IsKept is kept
-skipped false p q r rest kept e = rest e
-
 line_kept : (own : List Bool) (number : ℕ) (line : List ℕ) (p q : Progress) → IsKept p → line_run own number line p ≡ Ok q → IsKept q
 unfolding line_run
 line_kept own number line p q kept e =
-    skipped (is_skipped line) p q _ (λ r. carried (unless (not (list_all is_printable line)) kinds.Word _ q r)) kept
+    skipped IsKept (is_skipped line) p q _ (λ r. carried (unless (not (list_all is_printable line)) kinds.Word _ q r)) kept
     (unless (nat_lt 128 (length line)) kinds.TooLong _ q e) where
       carried : (command_of p.begun p.version (words_of line) >>= λ command. run own number command (record p { begun = true })) ≡ Ok q → IsKept q
       carried r =

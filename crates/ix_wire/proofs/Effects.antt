@@ -27,6 +27,16 @@ pub unless : {A : Type 0} (b : Bool) (kind : ScriptKind) (r : Result A ScriptKin
 unless true kind r y e = absurd (cc)
 unless false kind r y e = e
 
+pub unless_not : {A : Type 0} (b : Bool) (kind : ScriptKind) (r : Result A ScriptKind) (y : A) → (if b then Err kind else r) ≡ Ok y → b ≡ false
+unless_not true kind r y e = absurd (cc)
+unless_not false kind r y e = refl
+
+-- what a line that is skipped or not keeps
+pub skipped : (P : Progress → Type 0) (b : Bool) (p q : Progress) (r : Result Progress ScriptKind) → (r ≡ Ok q → P q) → P p
+    → (if b then Ok p else r) ≡ Ok q → P q
+skipped P true p q r rest here e = let is : p ≡ q = cc in subst P is here
+skipped P false p q r rest here e = rest e
+
 -- the version stays, and the cores of the groups change as said
 pub record Puts (f : List CoreId → List CoreId) (p q : Progress) : Type 0 where
   pub version : q.version ≡ p.version

@@ -1,6 +1,7 @@
 pub mod ClassLaws
 pub mod CommandLaws
 pub mod CommandRanges
+pub mod CountLaws
 pub mod Effects
 pub mod EntryLaws
 pub mod ProgressLaws

@@ -1,5 +1,5 @@
--- Each wire list names what is there, and the tags and moves of each group alternate in it.
-use Rattle.std.proofs.Common.{◌≡◌, ◌≢◌, ◌<◌, ◌≤◌, ◌+◌, ◌-◌, ◌*◌, ◌++◌, ◌⊎◌, inl, inr, ℕ, zero, suc, List, [], ◌∷◌, length, get_or, Bool, true, false, Option, Some, None, refl, subst, sym, ◌∙◌, arith, length-append, take, drop}
+-- Each wire list names what is there, the tags and moves of each group alternate in it, and it is not too long.
+use Rattle.std.proofs.Common.{◌≡◌, ◌≢◌, ◌<◌, ◌≤◌, ◌+◌, ◌-◌, ◌*◌, ◌^◌, ◌++◌, ◌⊎◌, inl, inr, ℕ, zero, suc, List, [], ◌∷◌, length, get_or, Bool, true, false, Option, Some, None, refl, subst, sym, ◌∙◌, arith, length-append, take, drop}
 use Rattle.std.specs.Prelude.{◌==◌, ◌||◌, ◌&&◌, if◌then◌else◌, nat_lt, not, fold, Result, Ok, Err, IfOk, All, Vec, slice_get, slice_index_or, slice_set}
 use Rattle.std.specs.List.{list_all, list_any}
 use Rattle.std.specs.declared.alloc.Global.{Global}
@@ -31,16 +31,13 @@ use Rattle.ix_wire.specs.Table.{Standing, are_planned_tagged, earlier, earliest,
 use Rattle.ix_wire.specs.Text.{lines_of, words_of}
 use Rattle.ix_wire.specs.Wire.{settled, start, with_all_each, with_frames}
 use Rattle.ix_wire.proofs.CommandRanges.{command_of-known}
-use Rattle.ix_wire.proofs.Effects.{passed, unless}
+use Rattle.ix_wire.proofs.CountLaws.{wire_of-count}
+use Rattle.ix_wire.proofs.Effects.{passed, skipped, unless, unless_not}
 use Rattle.ix_wire.proofs.EntryLaws.{each_good, frames_good, settled_good, time_written}
 use Rattle.ix_wire.proofs.RecordLaws.{others_from-below}
 use Rattle.ix_wire.proofs.SoundLaws.{IsPlan, IsSound, plan_sound, sound_told, steps_sound, tags_sound}
 
 -- a test that was passed
-unless_not : {A : Type 0} (b : Bool) (kind : ScriptKind) (r : Result A ScriptKind) (y : A) → (if b then Err kind else r) ≡ Ok y → b ≡ false
-unless_not true kind r y e = absurd (cc)
-unless_not false kind r y e = refl
-
 passes : (b : Bool) → not b ≡ false → b ≡ true
 passes true h = refl
 passes false h = absurd (cc)
@@ -212,11 +209,6 @@ run_sound own cores line commands.Settle p q range sound e =
 run_sound own cores line (commands.Add core) p q range sound e = add_sound (length own) cores line core (begun p) q (started (length own) cores p sound) e
 run_sound own cores line (commands.Revoke core) p q range sound e = revoke_sound (length own) cores line core (begun p) q (started (length own) cores p sound) e
 
-skipped : (P : Progress → Type 0) (b : Bool) (p q : Progress) (r : Result Progress ScriptKind) → (r ≡ Ok q → P q) → P p
-    → (if b then Ok p else r) ≡ Ok q → P q
-skipped P true p q r rest here e = let is : p ≡ q = cc in subst P is here
-skipped P false p q r rest here e = rest e
-
 line_sound : (own : List Bool) (cores number : ℕ) (line : List ℕ) (p q : Progress) → IsSound (length own) cores p → line_run own number line p ≡ Ok q
     → IsSound (length own) cores q
 unfolding line_run
@@ -242,9 +234,10 @@ all_over (None ∷ tags) zero e = refl
 all_over (None ∷ tags) (suc group) e = all_over tags group e
 all_over (Some line ∷ tags) group e = absurd (open_tag line tags e)
 
-finish_wire : (records cores : ℕ) (p : Progress) (es : List Entry) → IsSound records cores p → finish p ≡ Ok es → IsWire records cores es
+finish_wire : (records cores : ℕ) (p : Progress) (es : List Entry) → length es ≤ 2 ^ 32 → IsSound records cores p → finish p ≡ Ok es
+    → IsWire records cores es
 unfolding finish
-finish_wire records cores p es sound e = step (earliest p.table.tags) refl e where
+finish_wire records cores p es count sound e = step (earliest p.table.tags) refl e where
   step : (o : Option ℕ) → earliest p.table.tags ≡ o → entries_unless o (settled p.wire).entries ≡ Ok es → IsWire records cores es
   step (Some line) first e = absurd (cc)
   step None first e =
@@ -253,14 +246,15 @@ finish_wire records cores p es sound e = step (earliest p.table.tags) refl e whe
       subst (IsWire records cores) is (record {
         there = good.there;
         alternate = λ group h. subst (Alternate group false (settled p.wire).entries) (all_over p.table.tags group first) (good.alternate group h);
+        count = subst (λ all. length all ≤ 2 ^ 32) (sym is) count;
       })
 
-lines_wire : (own : List Bool) (cores number : ℕ) (lines : List (List ℕ)) (p : Progress) (es : List Entry) → IsSound (length own) cores p
-    → lines_run own number p lines ≡ Ok es → IsWire (length own) cores es
-lines_wire own cores number [] p es sound e = finish_wire (length own) cores p es sound e
-lines_wire own cores number (line ∷ lines) p es sound e =
+lines_wire : (own : List Bool) (cores number : ℕ) (lines : List (List ℕ)) (p : Progress) (es : List Entry) → length es ≤ 2 ^ 32
+    → IsSound (length own) cores p → lines_run own number p lines ≡ Ok es → IsWire (length own) cores es
+lines_wire own cores number [] p es count sound e = finish_wire (length own) cores p es count sound e
+lines_wire own cores number (line ∷ lines) p es count sound e =
     step (line_run own (number + 1) line p) (λ q is. line_sound own cores (number + 1) line p q sound is)
-    (λ q sound rest. lines_wire own cores (number + 1) lines q es sound rest)
+    (λ q sound rest. lines_wire own cores (number + 1) lines q es count sound rest)
     (within (number == 65536) _ e) where
       within : (b : Bool) (r : Result (List Entry) ScriptFault) → (if b then Err (faults.At (number + 1) kinds.TooMany) else r) ≡ Ok es → r ≡ Ok es
       within true r e = absurd (cc)
@@ -314,7 +308,7 @@ pub wire_of-is_wire : (pace cores live : ℕ) (own : List Bool) (bytes : List �
     → IsWire (length own) cores es
 unfolding wire_of
 wire_of-is_wire pace cores live own bytes es h e =
-    lines_wire own cores 0 (lines_of bytes) (opening pace cores live) es (opening_sound (length own) pace cores live h) e
+    lines_wire own cores 0 (lines_of bytes) (opening pace cores live) es (wire_of-count pace cores live own bytes es e) (opening_sound (length own) pace cores live h) e
 
 -- what is answered
 pub answer_is_wire : (records cores : ℕ) (r : Result (Vec Entry Global) ScriptFault) (meaning : Result (List Entry) ScriptFault)

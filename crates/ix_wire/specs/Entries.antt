@@ -1,5 +1,5 @@
 -- What each wire list of a script is like.
-use Rattle.std.specs.Prelude.{◌≡◌, ◌<◌, ℕ, ◌==◌, Bool, true, false, not, List, [], ◌∷◌, if◌then◌else◌, All}
+use Rattle.std.specs.Prelude.{◌≡◌, ◌<◌, ◌≤◌, ◌^◌, ℕ, ◌==◌, Bool, true, false, not, List, [], ◌∷◌, length, if◌then◌else◌, All}
 use Rattle.ix_wire.specs.declared.entry.Entry.{Entry}
 use Rattle.ix_wire.specs.declared.entry.Entry.TheVariants.{Frame, Tag, Move}
 
@@ -27,8 +27,9 @@ abbrev pub Alternate : ℕ → Bool → List Entry → Bool → Type 0
 Alternate group before [] last = before ≡ last
 Alternate group before (entry ∷ entries) last = (alternates group before entry ≡ true) × Alternate group (tagged_by group before entry) entries last
 
--- the entries of a play over so many records and cores: each names what is there, and the tags and moves of each group alternate, from an
--- untagged group to an untagged group
+-- The entries of a play over so many records and cores: each names what is there, and the tags and moves of each group alternate, from an
+-- untagged group to an untagged group. Entries are numbered from 0, and a number has 32 bits.
 pub record IsWire (records cores : ℕ) (entries : List Entry) : Type 0 where
   pub there : All (IsThere records cores) entries
   pub alternate : (group : ℕ) → group < 512 → Alternate group false entries false
+  pub count : length entries ≤ 2 ^ 32

@@ -24,8 +24,8 @@ const MAX_LINES: u32 = 65_536;
 /// record whether it is the local side's own. A settle is added after the `pace`-th frame since the last one, or for no number of frames
 /// where it is 0. Answers the whole wire list, or the first faulty line with the first kind, in the order of `ScriptKind`, that applies to
 /// it; a tag that has no move is told last, at the line of the first such one. Between two lines of a script of version 1 the four flow
-/// groups of a class are on one core. Each entry names a record, a flow group and a core that are there, and the tags and moves of each
-/// flow group alternate.
+/// groups of a class are on one core. Each entry names a record, a flow group and a core that are there, the tags and moves of each flow
+/// group alternate, and there are at most 2^32 entries.
 #[tactic(auto, unfolding(crate::specs::Script::wire_of))]
 pub fn read_wire(
     alloc: Global,

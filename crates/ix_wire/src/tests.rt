@@ -1,5 +1,5 @@
 // What no clause says: scripts from outside, each kind of fault, the limits, and that memory is enough.
-ghost use Rattle.std.specs.Prelude.{◌≤◌};
+ghost use Rattle.std.specs.Prelude.{◌≤◌, ◌<◌, ◌+◌, ◌*◌};
 
 use crate::{Entry, ScriptFault, ScriptKind, read_wire};
 use ix_base::{CoreId, GroupId};
@@ -487,50 +487,149 @@ fn accepted_lines(rt: HostRuntime) -> Result<(), Fail> {
     Ok(())
 }
 
-// A class moves while a frame waits, and settles stand behind what calls for them.
-const MIGRATION: [Entry; 15] = [
-    Entry::Frame { rec: 0 },
-    Entry::Tag {
-        group: GroupId(120),
+struct Listed {
+    text: &'static str,
+    pace: u32,
+    entries: &'static str,
+}
+
+// Whole wire lists over two live cores: settles of the pace, and then groups that move with settles of the pace between, with a frame
+// behind the tag, there and back again, alone, and with a settle before the next frame.
+const LISTED: [Listed; 10] = [
+    Listed {
+        text: "frames 0 3",
+        pace: 0,
+        entries: "frame 0\nframe 2\nframe 3\nsettle\n",
     },
-    Entry::Tag {
-        group: GroupId(248),
+    Listed {
+        text: "frames 0 3",
+        pace: 2,
+        entries: "frame 0\nframe 2\nsettle\nframe 3\nsettle\n",
     },
-    Entry::Tag {
-        group: GroupId(376),
+    Listed {
+        text: "each 0 3",
+        pace: 2,
+        entries: "frame 0\nsettle\nframe 2\nsettle\nframe 3\nsettle\nsettle\n",
     },
-    Entry::Tag {
-        group: GroupId(504),
+    Listed {
+        text: "each 0 0",
+        pace: 1,
+        entries: "frame 0\nsettle\nsettle\nsettle\n",
     },
-    Entry::Frame { rec: 2 },
-    Entry::Settle,
-    Entry::Move {
-        group: GroupId(120),
-        to: CoreId(1),
+    Listed {
+        text: "frames 0 0\ntime 5\nframes 2 2\nsettle\nframes 3 3",
+        pace: 3,
+        entries: "frame 0\ntime 5\nframe 2\nsettle\nframe 3\nsettle\n",
     },
-    Entry::Move {
-        group: GroupId(248),
-        to: CoreId(1),
+    Listed {
+        text: "# one class\r\nframes 0 1\r\n\ntag 120\nframes 1 2\nmove 120 1\neach 3 3\ntime 7",
+        pace: 2,
+        entries: "frame 0\ntag 120\ntag 248\ntag 376\ntag 504\nframe 2\nsettle\nmove 120 1\nmove 248 1\nmove 376 1\nmove 504 1\nframe 3\nsettle\ntime 7\nsettle\n",
     },
-    Entry::Move {
-        group: GroupId(376),
-        to: CoreId(1),
+    Listed {
+        text: "frames 0 0\ntag 120\nframes 2 2\nmove 120 1\nframes 3 3",
+        pace: 256,
+        entries: "frame 0\ntag 120\ntag 248\ntag 376\ntag 504\nframe 2\nmove 120 1\nmove 248 1\nmove 376 1\nmove 504 1\nframe 3\nsettle\n",
     },
-    Entry::Move {
-        group: GroupId(504),
-        to: CoreId(1),
+    Listed {
+        text: "tag 120\nmove 120 1\ntag 120\nmove 120 0\nframes 0 0",
+        pace: 256,
+        entries: "tag 120\ntag 248\ntag 376\ntag 504\nmove 120 1\nmove 248 1\nmove 376 1\nmove 504 1\ntag 120\ntag 248\ntag 376\ntag 504\nmove 120 0\nmove 248 0\nmove 376 0\nmove 504 0\nframe 0\nsettle\n",
     },
-    Entry::Frame { rec: 3 },
-    Entry::Settle,
-    Entry::Time { t: 7 },
-    Entry::Settle,
+    Listed {
+        text: "version 2\nframes 0 0\ntag 376\nframes 2 2\nmove 376 1\nframes 3 3",
+        pace: 256,
+        entries: "frame 0\ntag 376\nframe 2\nmove 376 1\nframe 3\nsettle\n",
+    },
+    Listed {
+        text: "frames 0 0\ntag 120\nframes 2 2\nmove 120 1\nsettle\nframes 3 3",
+        pace: 256,
+        entries: "frame 0\ntag 120\ntag 248\ntag 376\ntag 504\nframe 2\nmove 120 1\nmove 248 1\nmove 376 1\nmove 504 1\nsettle\nframe 3\nsettle\n",
+    },
 ];
 
+// An entry as a line.
+fn shown(alloc: Global, entry: &Entry) -> Result<String, AllocError> {
+    match entry {
+        Entry::Frame { rec } => format!(in alloc; "frame {rec}\n"),
+        Entry::Tag { group } => format!(in alloc; "tag {}\n", group.0),
+        Entry::Move { group, to } => format!(in alloc; "move {} {}\n", group.0, to.0),
+        Entry::Time { t } => format!(in alloc; "time {t}\n"),
+        Entry::Settle => format!(in alloc; "settle\n"),
+    }
+}
+
 #[test]
-fn a_migration(rt: HostRuntime) -> Result<(), Fail> {
-    let text = "# one class\r\nframes 0 1\r\n\ntag 120\nframes 1 2\nmove 120 1\neach 3 3\ntime 7";
-    let entries = read_wire(rt.alloc(), text.as_bytes(), 2, 2, 2, &OWN)?;
-    assert!(rt; entries.as_slice() == MIGRATION.as_slice());
+fn whole_lists(rt: HostRuntime) -> Result<(), Fail> {
+    let alloc = rt.alloc();
+    for case in &LISTED {
+        let mut all = String::new(alloc);
+        for entry in &read_wire(alloc, case.text.as_bytes(), case.pace, 2, 2, &OWN)? {
+            all.push_str(&shown(alloc, entry)?)?;
+        }
+        assert_eq!(rt; all.as_str(), case.entries, "{}", case.text);
+    }
+    Ok(())
+}
+
+// The tag and the move of each flow group that a place names.
+fn push_planned(
+    entries: &mut Vec<Entry>,
+    place: u16,
+    width: u16,
+    to: CoreId,
+) -> Result<(), AllocError>
+    requires { place + 128 * width < 640 }
+{
+    for k in 0..width {
+        let group = GroupId(place + 128 * k);
+        entries.push(Entry::Tag { group })?;
+        entries.push(Entry::Move { group, to })?;
+    }
+    Ok(())
+}
+
+#[test]
+fn plans(rt: HostRuntime) -> Result<(), Fail> {
+    let alloc = rt.alloc();
+    let mut want = Vec::new(alloc);
+    for class in 0..42u16 {
+        push_planned(&mut want, class, 4, CoreId(2))?;
+    }
+    want.push(Entry::Settle)?;
+    assert!(rt; read_wire(alloc, b"add 2", 256, 3, 2, &OWN)?.as_slice() == want.as_slice());
+    let mut want = Vec::new(alloc);
+    for turn in 0..64u16 {
+        push_planned(&mut want, 2 * turn + 1, 4, CoreId(0))?;
+    }
+    want.push(Entry::Settle)?;
+    assert!(rt; read_wire(alloc, b"revoke 1", 256, 2, 2, &OWN)?.as_slice() == want.as_slice());
+    let mut want = Vec::new(alloc);
+    for group in 0..170u16 {
+        push_planned(&mut want, group, 1, CoreId(2))?;
+    }
+    want.push(Entry::Settle)?;
+    let entries = read_wire(alloc, b"version 2\nadd 2", 256, 3, 2, &OWN)?;
+    assert!(rt; entries.as_slice() == want.as_slice());
+    Ok(())
+}
+
+#[test]
+fn the_thousandth(rt: HostRuntime) -> Result<(), Fail> {
+    let alloc = rt.alloc();
+    let mut want = Vec::new(alloc);
+    for group in 0..256u16 {
+        push_planned(&mut want, group, 1, CoreId(1))?;
+    }
+    for group in 0..256u16 {
+        if group == 244 {
+            want.push(Entry::Settle)?;
+        }
+        push_planned(&mut want, group, 1, CoreId(0))?;
+    }
+    want.push(Entry::Settle)?;
+    let entries = read_wire(alloc, b"version 2\nadd 1\nrevoke 1", 256, 2, 1, &OWN)?;
+    assert!(rt; entries.as_slice() == want.as_slice());
     Ok(())
 }
 
@@ -544,14 +643,17 @@ fn repeated(alloc: Global, text: &str, times: usize, last: &str) -> Result<Strin
     Ok(all)
 }
 
+fn too_many(line: u32) -> Result<usize, ScriptFault> {
+    Err(ScriptFault::At {
+        line,
+        kind: ScriptKind::TooMany,
+    })
+}
+
 #[test]
 fn limits(rt: HostRuntime) -> Result<(), Fail> {
     let alloc = rt.alloc();
     let many = [false; 4096];
-    let too_many = |line: u32| Err(ScriptFault::At {
-        line,
-        kind: ScriptKind::TooMany,
-    });
     let controls = [(999usize, 1000usize), (1000, 1002), (2000, 2003)];
     for (times, entries) in controls {
         let text = repeated(alloc, "time 0\n", times, "")?;
@@ -574,5 +676,17 @@ fn limits(rt: HostRuntime) -> Result<(), Fail> {
     assert_eq!(rt; count(alloc, 0, 1, 1, &many, &text), Ok(262_145));
     let text = repeated(alloc, "frames 0 4095\n", 64, "frames 7 7")?;
     assert_eq!(rt; count(alloc, 0, 1, 1, &many, &text), too_many(65));
+    Ok(())
+}
+
+// Core 1 takes half of the flow groups and gives them back, 256 moves a line.
+#[test]
+fn most_moves(rt: HostRuntime) -> Result<(), Fail> {
+    let alloc = rt.alloc();
+    let plans = repeated(alloc, "add 1\nrevoke 1\n", 16_384, "")?;
+    let text = format!(in alloc; "version 2\n{plans}")?;
+    assert_eq!(rt; count(alloc, 256, 2, 1, &OWN, &text), Ok(16_793_994));
+    let text = format!(in alloc; "version 2\n{plans}tag 0")?;
+    assert_eq!(rt; count(alloc, 256, 2, 1, &OWN, &text), too_many(32_770));
     Ok(())
 }
