@@ -15,6 +15,8 @@ pub mod Placed
 pub mod Parts
 pub mod SentLaws
 pub mod Fronts
+pub mod FrameLaws
+pub mod FitFrames
 pub mod Telling
 pub mod StrayParts
 pub mod Quiet

@@ -15,3 +15,4 @@ pub mod Cycles
 pub mod Answered
 pub mod Told
 pub mod StrayFrames
+pub mod Sent

@@ -6,6 +6,7 @@ ghost use Rattle.ix_groupdef.specs.Cycles.{AreLegal, QuietStays};
 ghost use Rattle.ix_groupdef.specs.Answered.{TookFronts};
 ghost use Rattle.ix_groupdef.specs.Told.{ToldStreams};
 ghost use Rattle.ix_groupdef.specs.StrayFrames.{StraysInOrder};
+ghost use Rattle.ix_groupdef.specs.Sent.{FramesFit};
 
 /// Nothing happens here: the contract says what is true of a flow group after any connects and any cutting of its entries into cycles,
 /// whatever its application answers.
@@ -16,7 +17,8 @@ ghost use Rattle.ix_groupdef.specs.StrayFrames.{StraysInOrder};
 /// What a connection does depends on the entries from its opening on, and its journal is legal for the cutting. One that gave no call in
 /// a round gives none in the next. Where what is told only adds to the answer, as it does for each application, what TCP took is the
 /// beginning of the answer. What an application was told are the bytes of the delivered parts, and begins the peer's stream where the peer
-/// agrees with itself.
+/// agrees with itself. Under a configuration in its ranges each frame that a connection gives can be written: its head counts its body,
+/// which has at most 1,460 bytes.
 pub fn groups_are_sound()
     ensures runs { AreRuns }
     ensures few { FewLive }
@@ -29,4 +31,5 @@ pub fn groups_are_sound()
     ensures quiet { QuietStays }
     ensures answered { TookFronts }
     ensures told { ToldStreams }
+    ensures frames { FramesFit }
 {}

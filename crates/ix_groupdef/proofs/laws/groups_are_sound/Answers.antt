@@ -5,10 +5,11 @@ use Rattle.ix_groupdef.proofs.Parts.{heard_in_order}
 use Rattle.ix_groupdef.proofs.Follows.{are_followed}
 use Rattle.ix_groupdef.proofs.InCycles.{are_legal}
 use Rattle.ix_groupdef.proofs.Fronts.{took_fronts}
+use Rattle.ix_groupdef.proofs.FitFrames.{frames_fit}
 use Rattle.ix_groupdef.proofs.Quiet.{quiet_stays}
 use Rattle.ix_groupdef.proofs.StrayParts.{strays_in_order}
 use Rattle.ix_groupdef.proofs.Telling.{told_streams}
 use Rattle.ix_groupdef.proofs.laws.groups_are_sound.Goals as goal
 
 pub returns : goal.returns
-returns c = record { runs = are_runs; few = few_live; none_lost = none_lost; own = hear_own; in_order = heard_in_order; followed = are_followed; legal = are_legal; answered = took_fronts; told = told_streams; strays = strays_in_order; quiet = quiet_stays }
+returns c = record { runs = are_runs; few = few_live; none_lost = none_lost; own = hear_own; in_order = heard_in_order; followed = are_followed; legal = are_legal; answered = took_fronts; told = told_streams; strays = strays_in_order; quiet = quiet_stays; frames = frames_fit }
