@@ -1,6 +1,9 @@
 pub mod FilterLemmas
+pub mod MapLemmas
 pub mod EntryLemmas
 pub mod PlaceLemmas
 pub mod WheelLemmas
+pub mod ViewLemmas
 pub mod DueLemmas
-pub mod MapLemmas
+pub mod MemberLemmas
+pub mod TurnLemmas

@@ -7,12 +7,19 @@ use Rattle.std.proofs.lemmas.List.Sorted.{IsPermutation-map, sum_by-IsPermutatio
 use Rattle.ix_time.specs.Entries.{Above, IsRising, tick_of, put, without, is_due, is_later, timed, later_tick, is_reached}
 use Rattle.ix_time.specs.Due.{due_of}
 use Rattle.ix_time.proofs.FilterLemmas.{filter-yes, filter-no}
-use Rattle.ix_time.proofs.EntryLemmas.{Above-filter}
 
-tick-same : (q : ℕ) (e : ℕ × ℕ) (es : List (ℕ × ℕ)) → q ≡ e.0 → tick_of q (e ∷ es) ≡ Some e.1
+pub Above-filter : (p : (ℕ × ℕ) → Bool) (key : ℕ) (es : List (ℕ × ℕ)) → Above key es → Above key (filter p es)
+Above-filter p key [] above = tt
+Above-filter p key (e ∷ es) above =
+    elim (cases_Bool (p e)) [
+      | inl pass ↦ rw pass (above.0, Above-filter p key es above.1)
+      | inr stop ↦ rw stop (Above-filter p key es above.1)
+    ]
+
+pub tick-same : (q : ℕ) (e : ℕ × ℕ) (es : List (ℕ × ℕ)) → q ≡ e.0 → tick_of q (e ∷ es) ≡ Some e.1
 tick-same q e es same = rw (eq-eqb q e.0 same) refl
 
-tick-other : (q : ℕ) (e : ℕ × ℕ) (es : List (ℕ × ℕ)) → (q ≡ e.0 → ⊥) → tick_of q (e ∷ es) ≡ tick_of q es
+pub tick-other : (q : ℕ) (e : ℕ × ℕ) (es : List (ℕ × ℕ)) → (q ≡ e.0 → ⊥) → tick_of q (e ∷ es) ≡ tick_of q es
 tick-other q e es apart = rw (ne_eqb q e.0 apart) refl
 
 abbrev none : Option ℕ
@@ -98,7 +105,7 @@ tick_of-without q key es = tick_of-filter_keys (λ k. not (k == key)) q es ∙ o
     other_way true o = refl
     other_way false o = refl
 
-nowhere : (q low : ℕ) (es : List (ℕ × ℕ)) → Above low es → q ≤ low → tick_of q es ≡ None
+pub nowhere : (q low : ℕ) (es : List (ℕ × ℕ)) → Above low es → q ≤ low → tick_of q es ≡ None
 nowhere q low [] above le = refl
 nowhere q low (e ∷ es) above le = tick-other q e es (λ same. absurd (omega (arith, above.0))) ∙ nowhere q low es above.1 le
 

@@ -1,4 +1,6 @@
-pub mod Places
 pub mod Entries
+pub mod Places
+pub mod Standings
+pub mod Slots
 pub mod Wheel
 pub mod Due

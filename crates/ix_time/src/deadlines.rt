@@ -3,33 +3,38 @@ ghost use Rattle.std.specs.Prelude.{◌≡◌, ◌==◌, [], ℕ, filter, count_
 ghost use Rattle.ix_time.specs.Entries.{tick_of, put, without, is_later, later_tick, is_reached};
 ghost use Rattle.ix_time.specs.Due.{GivesDue};
 
-use crate::due::{all_due, keys_of, moved, take_all};
-use crate::places::place_of;
-use crate::ticks::Ticks;
-use crate::wheel::{leave, make_places, put_at, replace_first, take_from};
+use crate::due::{due_keys, emptied, moved, renumber, replace_emptied, take_keys};
+use crate::places::{Clock, place_of};
+use crate::slots::Slot;
+use crate::standings::{Standing, Standings};
+use crate::wheel::{make_places, put_at, take_last, take_out};
 use ix_base::NoMemory;
 use std::alloc::Global;
 use std::marker::Model;
 
-/// A finite map from keys to ticks. It is kept in a wheel of six levels with 64 slots each, beside a place for what is overdue and one for what is far
-/// away; each deadline stands at the place that the clock and its tick name. The clock begins at 0 and is the greatest tick to which `due` has brought it.
+/// A finite map from keys to ticks, which are kept in a hierarchical wheel: each deadline stands at the place that the clock and its tick name. The
+/// clock begins at 0 and is the greatest tick to which `due` has brought it.
+///
+/// `set` and `clear` take a constant number of steps, as std's hash map counts them. `due` looks at each place of the wheel, and else takes a step for
+/// each deadline that it gives or moves; only the keys that it gives are sorted.
 #[derive(Drop)]
 pub struct Deadlines {
     alloc: Global,
-    clock: u64,
-    ticks: Ticks,
-    places: Vec<Ticks>,
+    clock: Clock,
+    standings: Standings,
+    places: Vec<Slot>,
 }
 
 impl Model for Deadlines {
     ghost use Rattle.std.specs.Prelude.{List, ℕ};
+    ghost use Rattle.ix_time.specs.Standings.{in_order};
     ghost use Rattle.ix_time.specs.Wheel.{KeepsPlaces};
 
     ghost Value = { List (ℕ × ℕ) };
 
-    ghost view = { λ d. d.ticks };
+    ghost view = { λ d. in_order d.standings };
 
-    ghost invariant = { λ d. KeepsPlaces d.clock d.ticks d.places.items };
+    ghost invariant = { λ d. KeepsPlaces d.clock d.standings d.places.items };
 }
 
 impl Deadlines {
@@ -39,8 +44,8 @@ impl Deadlines {
     {
         Deadlines {
             alloc,
-            clock: 0,
-            ticks: Ticks::new(alloc),
+            clock: Clock { latest: 0, last: 0 },
+            standings: Standings::new(alloc),
             places: Vec::new(alloc),
         }
     }
@@ -53,14 +58,19 @@ impl Deadlines {
     {
         make_places(self.alloc, &mut self.places)?;
         let place = place_of(self.clock, at);
-        put_at(&mut self.places, place, key, at)?;
-        let before = self.ticks.get(key);
-        if let Err(failed) = self.ticks.insert(key, at) {
-            take_from(&mut self.places, place, key);
-            return Err(failed);
+        let index = put_at(&mut self.places, place, key, at)?;
+        match self.standings.insert(key, Standing { tick: at, index }) {
+            Ok(None) => Ok(()),
+            Ok(Some(old)) => {
+                let old_place = place_of(self.clock, old.tick);
+                take_out(&mut self.standings, &mut self.places, old_place, old.index);
+                Ok(())
+            }
+            Err(failed) => {
+                take_last(&mut self.places, place);
+                Err(failed)
+            }
         }
-        leave(&mut self.places, self.clock, before, place, key);
-        Ok(())
     }
 
     /// Takes a key out, where it is there. It takes no memory.
@@ -68,9 +78,9 @@ impl Deadlines {
         ensures entries { self.new ≡ without key self.old }
         ensures ticks { (q : ℕ) → tick_of q self.new ≡ (if q == key then None else tick_of q self.old) }
     {
-        if let Some(tick) = self.ticks.remove(key) {
-            let standing = place_of(self.clock, tick);
-            take_from(&mut self.places, standing, key);
+        if let Some(old) = self.standings.remove(key) {
+            let place = place_of(self.clock, old.tick);
+            take_out(&mut self.standings, &mut self.places, place, old.index);
         }
     }
 
@@ -83,19 +93,19 @@ impl Deadlines {
         ensures ticks { OnOk result ((q : ℕ) → tick_of q self.new ≡ later_tick now (tick_of q self.old)) }
         ensures err { OnErr result (self.new ≡ self.old) }
     {
-        let clock = self.clock.max(now);
-        if self.places.is_empty() {
-            self.clock = clock;
+        let latest = self.clock.latest.max(now);
+        let next = Clock { latest, last: now };
+        let entries = emptied(self.alloc, self.places.as_slice(), self.clock, now)?;
+        if entries.is_empty() {
+            self.clock = next;
             return Ok(Vec::new(self.alloc));
         }
-        let last = place_of(self.clock, now);
-        let mut due = all_due(self.alloc, &self.places[..=last], now)?;
-        due.sort_unstable();
-        let keys = keys_of(self.alloc, due.as_slice())?;
-        let first = moved(self.alloc, &self.places[last], last, now, clock)?;
-        take_all(&mut self.ticks, keys.as_slice());
-        replace_first(&mut self.places, first);
-        self.clock = clock;
+        let keys = due_keys(self.alloc, entries.as_slice(), now)?;
+        let new = moved(self.alloc, entries.as_slice(), now, next)?;
+        take_keys(&mut self.standings, keys.as_slice());
+        renumber(&mut self.standings, new.as_slice());
+        replace_emptied(&mut self.places, new, self.clock, now);
+        self.clock = next;
         Ok(keys)
     }
 }

@@ -4,9 +4,10 @@
 mod deadlines;
 mod due;
 mod places;
+mod slots;
+mod standings;
 #[cfg(test)]
 mod tests;
-mod ticks;
 mod wheel;
 
 pub use deadlines::Deadlines;

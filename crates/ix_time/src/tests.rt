@@ -1,8 +1,9 @@
 // What no clause says: that memory is enough, and the wheel against a plain ordered map, over long runs and at the ends of its levels.
 use crate::Deadlines;
-use crate::places::place_of;
+use crate::places::{Clock, place_of};
 use std::alloc::Global;
 use std::collections::BTreeMap;
+use std::process::Abort;
 use std::test::Fail;
 
 // What a plain map answers: the keys at most `now`, by tick and key.
@@ -28,23 +29,30 @@ fn sendable<T: Send>(value: T) -> T {
 
 #[test]
 fn places_follow_the_rule(rt: HostRuntime) {
-    for (clock, tick, place) in [
-        (70, 70, 0),
-        (70, 69, 0),
-        (0, 1, 2),
-        (0, 63, 64),
-        (0, 70, 66),
-        (63, 64, 66),
-        (64, 70, 7),
-        (0, 4096, 130),
-        (4095, 4096, 130),
-        (0, 68_719_476_735, 384),
-        (0, 68_719_476_736, 385),
-        (68_719_476_736, 68_719_476_737, 2),
-        (68_719_476_735, 68_719_476_736, 385),
-        (0, u64::MAX, 385),
+    for (latest, last, tick, place) in [
+        (70, 70, 70, 710),
+        (70, 70, 69, 709),
+        (5000, 60, 70, 769),
+        (0, 0, 1, 1),
+        (0, 0, 63, 63),
+        (0, 0, 70, 65),
+        (63, 63, 64, 65),
+        (64, 2, 70, 6),
+        (0, 0, 4096, 129),
+        (4095, 0, 4096, 129),
+        (0, 0, 68_719_476_735, 383),
+        (0, 0, 68_719_476_736, 385),
+        (68_719_476_736, 5, 68_719_476_737, 1),
+        (68_719_476_735, 0, 68_719_476_736, 385),
+        (0, 0, u64::MAX, 655),
+        (u64::MAX, 0, u64::MAX, 1359),
     ] {
-        assert_eq!(rt; place_of(clock, tick), place, "{tick} at {clock}");
+        let clock = Clock { latest, last };
+        assert_eq!(rt;
+            place_of(clock, tick),
+            place,
+            "{tick} at {latest} and {last}"
+        );
     }
 }
 
@@ -139,8 +147,8 @@ fn next(state: u64) -> u64 {
         .wrapping_add(1_442_695_040_888_963_407)
 }
 
-#[test]
-fn a_thousand_steps_are_those_of_a_plain_map(rt: HostRuntime) -> Result<(), Fail> {
+// A thousand steps, with due calls whose ticks only rise or are any.
+fn run_steps(rt: &(impl Abort + AllocGlobal), rises: bool) -> Result<(), Fail> {
     let mut deadlines = Deadlines::new(rt.alloc());
     let mut plain = BTreeMap::new(rt.alloc());
     let mut state = 1;
@@ -149,13 +157,14 @@ fn a_thousand_steps_are_those_of_a_plain_map(rt: HostRuntime) -> Result<(), Fail
         state = next(state);
         let key = (state >> 40) as u32 % 50;
         let distance = (state >> 8) >> (state % 56);
+        let from = if rises { now } else { 0 };
         match (state >> 33) % 8 {
             0 => {
                 deadlines.clear(key);
                 plain.remove(&key);
             }
             1 => {
-                now = now.saturating_add(distance / 4);
+                now = from.saturating_add(distance / 4);
                 let due = deadlines.due(now)?;
                 assert_eq!(rt;
                     due.as_slice(),
@@ -163,7 +172,7 @@ fn a_thousand_steps_are_those_of_a_plain_map(rt: HostRuntime) -> Result<(), Fail
                 );
             }
             _ => {
-                let tick = now.saturating_add(distance);
+                let tick = from.saturating_add(distance);
                 deadlines.set(key, tick)?;
                 plain.insert(key, tick)?;
             }
@@ -178,19 +187,31 @@ fn a_thousand_steps_are_those_of_a_plain_map(rt: HostRuntime) -> Result<(), Fail
 }
 
 #[test]
-fn ten_thousand_keys_of_one_tick_are_set_cleared_and_given(rt: HostRuntime) -> Result<(), Fail> {
+fn a_thousand_steps_are_those_of_a_plain_map(rt: HostRuntime) -> Result<(), Fail> {
+    run_steps(&rt, true)?;
+    run_steps(&rt, false)
+}
+
+#[test]
+fn a_hundred_thousand_keys_are_set_cleared_and_given(rt: HostRuntime) -> Result<(), Fail> {
     let mut deadlines = Deadlines::new(rt.alloc());
-    for key in 0..10_000u32 {
-        deadlines.set(key, 1 << 20)?;
+    for key in 0..100_000u32 {
+        deadlines.set(key, (1 << 40) + key as u64 % 50)?;
     }
-    for key in 0..5_000u32 {
+    for key in 0..50_000u32 {
         deadlines.clear(2 * key);
     }
+    for step in 0..10_000u64 {
+        let due = deadlines.due(step << 26)?;
+        assert!(rt; due.is_empty());
+    }
+    let due = deadlines.due((1 << 40) + 24)?;
+    assert_eq!(rt; due.len(), 24_000);
     for now in 0..10_000u64 {
         let due = deadlines.due(now)?;
         assert!(rt; due.is_empty());
     }
-    let due = deadlines.due(1 << 20)?;
-    assert_eq!(rt; due.len(), 5_000);
+    let due = deadlines.due(1 << 41)?;
+    assert_eq!(rt; due.len(), 26_000);
     Ok(())
 }

