@@ -1,10 +1,11 @@
 -- A loop that works on the elements of a list, one after the other.
 use Rattle.std.proofs.Common.{◌≡◌, ℕ, suc, ◌+◌, ◌<◌, List, [], ◌∷◌, ◌++◌, length, get_or, set, take, drop, refl, sym, ap, ◌∙◌, arith, drop-cons}
-use Rattle.std.proofs.lemmas.List.{take_more_set, drop-set-lt}
+use Rattle.std.proofs.lemmas.List.{take_more_set, drop-set-lt, set_split, take-append-drop}
 use Rattle.std.proofs.Math.Seq.{take-suc}
 use Rattle.std.specs.Prelude.{Bool, Option, Some, None, ◌≤◌}
 use Rattle.ix_desk.specs.Views.{Piece, Group}
 use Rattle.ix_desk.specs.Steps.{leave, EachWorked, cut_leaves, current_leaves, group_leaves}
+use Rattle.ix_desk.specs.Failures.{OneFailed}
 
 module _ {X : Type 0} (leaves : ℕ → X → ℕ) (Worked : ℕ → X → X → Type 0) where
   leave-snoc : (b : ℕ) (xs : List X) (x : X) → leave leaves b (xs ++ x ∷ []) ≡ leaves (leave leaves b xs) x
@@ -49,6 +50,28 @@ module _ {X : Type 0} (leaves : ℕ → X → ℕ) (Worked : ℕ → X → X →
         let b = drop-cons xs i y within in
         let next : i + 1 ≡ suc i = omega arith in
         rw next (drop-set-lt (suc i) ys i y (omega arith) ∙ (cc))
+
+    -- work failed at the element in this place
+    pub one-failed : (Failed : ℕ → X → X → Type 0) (b : ℕ) (y : X) → length ys ≡ length xs → i < length ys → x ≡ get_or ys i x → drop i ys ≡ drop i xs
+        → EachWorked leaves Worked b (take i xs) (take i ys) → Failed (leave leaves b (take i xs)) x y
+        → OneFailed leaves Worked Failed b xs (set ys i y)
+    one-failed Failed b y len lt read rest each fail =
+        let here = same-here len lt read rest in
+        let within : i < length xs = omega arith in
+        let one : drop i xs ≡ x ∷ drop (suc i) xs = drop-cons xs i x within ∙ ap (λ z. z ∷ drop (suc i) xs) (sym here) in
+        let other : drop i ys ≡ x ∷ drop (suc i) ys = drop-cons ys i x lt ∙ ap (λ z. z ∷ drop (suc i) ys) (sym read) in
+        let behind : drop (suc i) ys ≡ drop (suc i) xs = cc in
+        record {
+          before = take i xs;
+          one = x;
+          behind = drop (suc i) xs;
+          done = take i ys;
+          left = y;
+          was = sym (take-append-drop i xs) ∙ ap (λ z. take i xs ++ z) one;
+          is = set_split ys i y lt ∙ ap (λ z. take i ys ++ y ∷ z) behind;
+          worked = each;
+          failed = fail;
+        }
 
 -- a list leaves no more of a budget than there was
 pub leave-most : {X : Type 0} (leaves : ℕ → X → ℕ) → ((b : ℕ) (x : X) → leaves b x ≤ b) → (b : ℕ) (xs : List X) → leave leaves b xs ≤ b

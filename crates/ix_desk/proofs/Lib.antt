@@ -6,3 +6,4 @@ pub mod Places
 pub mod Each
 pub mod Home
 pub mod Lends
+pub mod Order

@@ -47,3 +47,8 @@ pub record Ships {U I : Type 0} (old new : View U I) (g tenure to : ℕ) (unit :
 -- no piece that was cut is done
 abbrev pub NothingDone : {U I : Type 0} → View U I → Type 0
 NothingDone v = (g : ℕ) → done_of (group_at v g).cut ≡ None
+
+-- the same items fit, and the same units are awaited
+pub record SameOrder {U I : Type 0} (old new : View U I) : Type 0 where
+  pub fits : (g : ℕ) (it : DeskItem I) → fits_at new g it ≡ fits_at old g it
+  pub welcome : (g k to : ℕ) → welcome_at new g k to ≡ welcome_at old g k to

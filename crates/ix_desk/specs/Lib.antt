@@ -4,3 +4,4 @@ pub mod Tenures
 pub mod Groups
 pub mod Steps
 pub mod Desks
+pub mod Failures

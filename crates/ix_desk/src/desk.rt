@@ -29,7 +29,7 @@ impl<U, I> Model for Desk<U, I> {
 }
 
 impl<U: Drop, I: Drop> Desk<U, I> {
-    ghost use Rattle.std.specs.Prelude.{◌≡◌, ◌+◌, ◌<◌, ◌++◌, ◌∷◌, [], ℕ, true, false, length, is_some, Option, Some, None, OnOk, IfOk, IfErr, slice_get};
+    ghost use Rattle.std.specs.Prelude.{◌≡◌, ◌+◌, ◌<◌, ◌++◌, ◌∷◌, [], ℕ, true, false, length, is_some, Option, Some, None, OnOk, IfOk, IfErr, IfNone, slice_get};
     ghost use Rattle.std.specs.Option.{option_copied};
     ghost use Rattle.ix_desk.specs.Pieces.{begun, with_item, with_tag, with_arrival, awaits, without_unit, with_unit, is_done, piece_waits};
     ghost use Rattle.std.specs.Option.{option_copied_mut};
@@ -129,6 +129,7 @@ impl<U: Drop, I: Drop> Desk<U, I> {
     pub fn take_unit(&mut self) -> Option<U>
         ensures unit { result ≡ self.old.unit }
         ensures rest { self.new ≡ without_unit self.old }
+        ensures none { IfNone result (self.new ≡ self.old) }
     {
         self.unit.take()
     }

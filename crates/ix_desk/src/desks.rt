@@ -4,7 +4,8 @@ ghost use Rattle.std.specs.Option.{option_copied};
 ghost use Rattle.ix_desk.specs.Views.{Piece, CutPiece};
 ghost use Rattle.ix_desk.specs.Groups.{taken, landed, unit_of, untaken, changed, done_of, shipped, waits};
 ghost use Rattle.ix_desk.specs.Steps.{leave, group_leaves, AllWorked};
-ghost use Rattle.ix_desk.specs.Desks.{group_at, with_group, fits_at, welcome_at, groups_wait, opened, Ships, NothingDone};
+ghost use Rattle.ix_desk.specs.Failures.{AllFailed};
+ghost use Rattle.ix_desk.specs.Desks.{group_at, with_group, fits_at, welcome_at, groups_wait, opened, Ships, NothingDone, SameOrder};
 
 use crate::all_groups::{empty_groups, groups_waiting, seat_home, ship_first};
 use crate::group::GroupDesks;
@@ -151,6 +152,7 @@ impl<U: Unit> Desks<U> {
         requires { waits (group_at self.old g.0) ≡ [] }
         ensures unit { result ≡ unit_of (group_at self.old g.0) }
         ensures rest { self.new ≡ with_group self.old g.0 (untaken (group_at self.old g.0)) }
+        ensures none { IfNone result (self.new ≡ self.old) }
     {
         let place = usize::from(g.0);
         if place >= self.groups.len() {
@@ -169,14 +171,19 @@ impl<U: Unit> Desks<U> {
     }
 
     /// Steps items of the desks whose unit is here, remote queue first and none behind a tag, until so many that count are stepped or none
-    /// is left. A desk's items go to one step. Answers the number of those that count. Once it has found no memory, `item`, `arrive` and
-    /// `work` find none either, and nothing is shipped.
+    /// is left. A desk's items go to one step. Answers the number of those that count.
+    ///
+    /// It can find no memory only at a piece that has items to step. The pieces before that one were then worked on, and those behind it
+    /// are as they were. Where there was no memory to gather its items, they still wait; where its step found none, they are gone, and its
+    /// unit is as that step left it. From then on `item`, `arrive` and `work` find no memory either, and nothing is shipped.
     pub fn work(&mut self, env: &U::Env, max: usize) -> Result<usize, NoMemory>
         ensures most { IfOk result (λ n. n ≤ max) }
         ensures count { IfOk result (λ n. n ≡ max - leave (group_leaves U.counted) max self.old.groups) }
         ensures worked { OnOk result (AllWorked U.counted U.name U.stepped U.advanced env.now self.old.core max self.old self.new) }
         ensures err { OnErr result ((self.new.failed ≡ true) × (self.new.core ≡ self.old.core)) }
+        ensures stopped { OnErr result ((self.old.failed ≡ false) → AllFailed U.counted U.name U.stepped U.advanced env.now self.old.core max self.old self.new) }
         ensures failed { self.old.failed ≡ true → IsErr result × (self.new ≡ self.old) }
+        ensures order { SameOrder self.old self.new }
     {
         if self.failed {
             return Err(NoMemory);
@@ -196,6 +203,7 @@ impl<U: Unit> Desks<U> {
         ensures nothing { IfNone result ((self.old.failed ≡ false) → NothingDone self.old) }
         ensures failed { self.old.failed ≡ true → IsNone result }
         ensures ships { IfSome result (λ s. Ships self.old self.new s.group.0 s.tenure s.to.0 s.unit s.queue) }
+        ensures order { SameOrder self.old self.new }
     {
         if self.failed {
             return None;

@@ -274,6 +274,7 @@ impl<U: Drop, I: Drop> GroupDesks<U, I> {
     pub fn take_unit(&mut self) -> Option<U>
         ensures unit { result ≡ unit_of self.old }
         ensures rest { self.new ≡ untaken self.old }
+        ensures none { IfNone result (self.new ≡ self.old) }
     {
         if let Some(unit) = take_cut_unit(&mut self.cut) {
             return Some(unit);
@@ -336,8 +337,9 @@ impl<U: Drop, I: Drop> CutDesk<U, I> {
 }
 
 impl<U: Unit> CutDesk<U, U::Item> {
-    ghost use Rattle.std.specs.Prelude.{◌≡◌, OnOk, IfOk};
+    ghost use Rattle.std.specs.Prelude.{◌≡◌, OnOk, OnErr, IfOk};
     ghost use Rattle.ix_desk.specs.Steps.{cut_leaves, CutWorked};
+    ghost use Rattle.ix_desk.specs.Failures.{CutFailed};
 
     /// `work` of its desk.
     pub fn work(
@@ -349,14 +351,16 @@ impl<U: Unit> CutDesk<U, U::Item> {
     ) -> Result<usize, NoMemory>
         ensures worked { OnOk result (CutWorked U.counted U.name U.stepped U.advanced env.now core.0 budget self.old self.new) }
         ensures left { IfOk result (λ left. left ≡ cut_leaves U.counted budget self.old) }
+        ensures failed { OnErr result (CutFailed U.counted budget self.old self.new) }
     {
         self.desk.work(alloc, env, core, budget)
     }
 }
 
 impl<U: Unit> GroupDesks<U, U::Item> {
-    ghost use Rattle.std.specs.Prelude.{◌≡◌, OnOk, IfOk};
+    ghost use Rattle.std.specs.Prelude.{◌≡◌, OnOk, OnErr, IfOk};
     ghost use Rattle.ix_desk.specs.Steps.{group_leaves, GroupWorked};
+    ghost use Rattle.ix_desk.specs.Failures.{GroupFailed};
 
     /// Steps items of each piece whose unit is here, within a budget of items that count. Answers what is left of it.
     pub fn work(
@@ -368,6 +372,7 @@ impl<U: Unit> GroupDesks<U, U::Item> {
     ) -> Result<usize, NoMemory>
         ensures worked { OnOk result (GroupWorked U.counted U.name U.stepped U.advanced env.now core.0 budget self.old self.new) }
         ensures left { IfOk result (λ left. left ≡ group_leaves U.counted budget self.old) }
+        ensures failed { OnErr result (GroupFailed U.counted U.name U.stepped U.advanced env.now core.0 budget self.old self.new) }
     {
         let left = work_cut(alloc, env, core, budget, &mut self.cut)?;
         match &mut self.current {
@@ -439,6 +444,7 @@ fn seat_current<U: Drop, I: Drop>(
 fn take_cut_unit<U: Drop, I: Drop>(cut: &mut Vec<CutDesk<U, I>>) -> Option<U>
     ensures unit { result ≡ cut_unit cut.old.items }
     ensures rest { cut.new.items ≡ cut_untaken cut.old.items }
+    ensures none { IfNone result (cut.new.items ≡ cut.old.items) }
 {
     for i in 0..cut.len() {
         let here = &mut cut[i];

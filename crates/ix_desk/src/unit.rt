@@ -25,7 +25,7 @@ pub trait Unit: Drop {
     /// `advanced x env core items y`: a step of `items` on `core` may take the unit from `x` to `y`.
     ghost advanced: { Self → Self.Env → ℕ → List Self.Item → Self → Type 0 };
 
-    /// Steps items in order, on this core.
+    /// Steps items in order, on this core. Where it finds no memory, they are gone, and what the unit has then done is left open.
     fn step(
         &mut self,
         env: &Self::Env,

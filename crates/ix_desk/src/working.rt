@@ -1,6 +1,7 @@
 // Work over lists, each element with the budget that those before it left.
-ghost use Rattle.std.specs.Prelude.{◌≡◌, length, OnOk, IfOk};
+ghost use Rattle.std.specs.Prelude.{◌≡◌, length, OnOk, OnErr, IfOk};
 ghost use Rattle.ix_desk.specs.Steps.{leave, EachWorked, cut_leaves, CutWorked, group_leaves, GroupWorked};
+ghost use Rattle.ix_desk.specs.Failures.{OneFailed, CutFailed, GroupFailed};
 
 use crate::group::{CutDesk, GroupDesks};
 use crate::unit::Unit;
@@ -17,6 +18,7 @@ pub fn work_cut<U: Unit>(
 ) -> Result<usize, NoMemory>
     ensures worked { OnOk result (EachWorked (cut_leaves U.counted) (CutWorked U.counted U.name U.stepped U.advanced env.now core.0) budget cut.old.items cut.new.items) }
     ensures left { IfOk result (λ left. left ≡ leave (cut_leaves U.counted) budget cut.old.items) }
+    ensures failed { OnErr result (OneFailed (cut_leaves U.counted) (CutWorked U.counted U.name U.stepped U.advanced env.now core.0) (CutFailed U.counted) budget cut.old.items cut.new.items) }
 {
     let mut left = budget;
     for i in 0..cut.len() {
@@ -37,6 +39,7 @@ pub fn work_groups<U: Unit>(
     ensures len { length groups.new.items ≡ length groups.old.items }
     ensures worked { OnOk result (EachWorked (group_leaves U.counted) (GroupWorked U.counted U.name U.stepped U.advanced env.now core.0) budget groups.old.items groups.new.items) }
     ensures left { IfOk result (λ left. left ≡ leave (group_leaves U.counted) budget groups.old.items) }
+    ensures failed { OnErr result (OneFailed (group_leaves U.counted) (GroupWorked U.counted U.name U.stepped U.advanced env.now core.0) (GroupFailed U.counted U.name U.stepped U.advanced env.now core.0) budget groups.old.items groups.new.items) }
 {
     let mut left = budget;
     for i in 0..groups.len() {

@@ -1,3 +1,7 @@
+ghost use Rattle.std.specs.Prelude.{◌≡◌, [], IfOk};
+ghost use Rattle.ix_desk.specs.Groups.{waits};
+ghost use Rattle.ix_desk.specs.Desks.{group_at};
+
 use super::*;
 use ix_base::{CoreId, GroupId, List, NoMemory};
 use ix_desk::{DeskItem, Desks, Shipment};
@@ -17,7 +21,9 @@ fn new_tally(alloc: Global, fails_at: u32) -> Tally {
 }
 
 // The desks of core 0, where the group is at home.
-fn home(alloc: Global, fails_at: u32) -> Result<Desks<Tally>, NoMemory> {
+fn home(alloc: Global, fails_at: u32) -> Result<Desks<Tally>, NoMemory>
+    ensures { IfOk result (λ desks. waits (group_at desks 120) ≡ []) }
+{
     let mut units = Vec::new(alloc);
     units.push((GROUP, new_tally(alloc, fails_at)))?;
     Desks::new(alloc, CoreId(0), units)
@@ -167,6 +173,8 @@ fn no_memory_at_the_second_step(rt: HostRuntime) -> Result<(), Fail> {
     assert_eq!(rt; desks.work(&(), 64), Ok(1));
     take(&rt, &mut desks, DeskItem::Work(Thing::Frame(1)))?;
     assert_eq!(rt; desks.work(&(), 64), Err(NoMemory));
+    assert!(rt; desks.waiting(0).is_none(), "its items are gone");
+    assert!(rt; desks.unit(GROUP).is_some(), "its unit is here");
     assert_eq!(rt; desks.work(&(), 64), Err(NoMemory));
     assert!(rt; desks.ship().is_none());
     let it = DeskItem::Work(Thing::Frame(2));
@@ -201,6 +209,17 @@ fn a_unit_is_changed_in_its_place(rt: HostRuntime) -> Result<(), Fail> {
     }
     take(&rt, &mut desks, DeskItem::Work(Thing::Frame(0)))?;
     assert_eq!(rt; desks.work(&(), 64), Err(NoMemory), "by its new number");
+    Ok(())
+}
+
+#[test]
+fn a_unit_is_taken_away(rt: HostRuntime) -> Result<(), Fail> {
+    let mut desks = home(rt.alloc(), 7)?;
+    let Some(unit) = desks.take_unit(GROUP) else {
+        return Err(Fail::from("the unit is at home here"));
+    };
+    assert_eq!(rt; unit.fails_at, 7);
+    assert!(rt; desks.unit(GROUP).is_none());
     Ok(())
 }
 

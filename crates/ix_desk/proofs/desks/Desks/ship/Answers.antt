@@ -3,6 +3,7 @@ use Rattle.std.specs.Prelude.{None}
 use Rattle.ix_desk.specs.Views.{Group, View}
 use Rattle.ix_desk.specs.Groups.{empty}
 use Rattle.ix_desk.proofs.Cuts.{done-unit}
+use Rattle.ix_desk.proofs.Order.{shipped-order}
 use Rattle.ix_desk.proofs.desks.Desks.ship.Goals as goal
 
 pub unreachable-requires : goal.unreachable-requires
@@ -27,3 +28,8 @@ returns-clause-ships g c =
       next = c.into_parts-tenure.ensures.1;
       over = ap whole c.in_ok-place.ensures.shipped;
     })
+
+pub returns-clause-order : goal.returns-clause-order
+returns-clause-order g c =
+    let v : View g.row.U.Denot g.row.U-Item.Denot = record { core = c.self.inside.core.0; failed = c.self.inside.failed; groups = c.self.inside.groups.items } in
+    rw (← c.self.view_is, c.in_ok-place.ensures.shipped) (shipped-order v c.in_ok-place.place)
