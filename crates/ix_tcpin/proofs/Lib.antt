@@ -1,1 +1,5 @@
 pub mod HeldLemmas
+pub mod Relation
+pub mod CheckLemmas
+pub mod NumberLemmas
+pub mod AckLemmas
