@@ -3,3 +3,5 @@ pub mod Relation
 pub mod CheckLemmas
 pub mod NumberLemmas
 pub mod AckLemmas
+pub mod FillLemmas
+pub mod HoleLemmas
