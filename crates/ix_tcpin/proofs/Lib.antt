@@ -5,3 +5,4 @@ pub mod NumberLemmas
 pub mod AckLemmas
 pub mod FillLemmas
 pub mod HoleLemmas
+pub mod TextLemmas
