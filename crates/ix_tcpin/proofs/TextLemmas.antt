@@ -40,7 +40,7 @@ use Rattle.ix_tcpin.specs.Heads.{ack_head}
 use Rattle.ix_tcpin.specs.Work as at_work
 use Rattle.ix_tcpin.specs.Work.{Work, work, keep, dropped, let_go, replies, announces}
 use Rattle.ix_tcpin.specs.Text.{octets_in, moved, holds, is_beside, place_among, head_held, waiting_part, taken_body, fills, Filled, filled_numbers, Texted, texted, received_part, stands_next, body_part, behind_fin, fin_part_in, fin_part, finished_part, text_part}
-use Rattle.ix_tcpin.specs.Verdict.{body_piece, body_pieces, held_pieces, kept_held, body_held, held_with, pieces_of, held_of, first_told, last_told, told_pieces, frame_of, reply_of, outputs_of, has_ended}
+use Rattle.ix_tcpin.specs.Verdict.{body_piece, body_pieces, held_pieces, kept_held, body_held, held_with, pieces_of, held_of, is_end, first_told, last_told, told_pieces, frame_of, reply_of, outputs_of, has_ended}
 use Rattle.ix_tcpin.proofs.Relation.{so_far, at, SameText, Agrees, Says, keep-pieces, keep-held, dropped-pieces, dropped-held, first-more, last-more, lives, says-answered, says-nothing}
 use Rattle.ix_tcpin.proofs.CheckLemmas.{says-ack}
 use Rattle.ix_tcpin.proofs.FillLemmas.{piece_of, Delivers, delivers, IsNear, Fills, told-append, fill-stands}
@@ -227,3 +227,159 @@ texts-hole cfg w n seg j es p o window a k cut some =
           before = a.before;
           alive = a.alive;
         }
+
+-- ## The body
+texts-received : (cfg : Cfg) (w : Connection) (n : WireNo) (seg : Seg) (j : Job) (es : List Event) (p : Places) (o : Octets) → cfg.window < 2 ^ 16 → Agrees w j es → IsKept cfg j.connection → IsCut (rcv_wnd cfg j.connection) j.connection.rcv (past_of (seq_of j.connection seg.head)) seg p o → p.from < p.to → Texts w n seg (received_part cfg p (has_flag seg.head.flags FIN && o.whole) (at w j es)) (received cfg o n (has_flag seg.head.flags FIN && o.whole) j)
+unfolding received_part received
+texts-received cfg w n seg j es p o window a k cut some =
+    elim (cases_Bool (p.past == 0)) [
+      | inl here ↦
+          let next : (o.at == j.connection.rcv) ≡ true = sym (taken_place p.past j.connection.rcv o.at cut.at) ∙ here in
+          rw (here, next) (texts-taken cfg w n seg j es p o (has_flag seg.head.flags FIN && o.whole) window a k cut some (grind (arith, common_steps, here)))
+      | inr beyond ↦
+          let not_next : (o.at == j.connection.rcv) ≡ false = sym (taken_place p.past j.connection.rcv o.at cut.at) ∙ beyond in
+          rw (beyond, not_next) (texts-hole cfg w n seg j es p o window a k cut some)
+    ]
+
+empty_test : (from to len : ℕ) → len ≡ to - from → from ≤ to → (to == from) ≡ (len == 0)
+empty_test from to len is order =
+    elim (cases_Bool (to == from)) [ inl level ↦ grind (arith, common_steps, level) | inr more ↦ grind (arith, common_steps, more) ]
+
+texts-octets : (cfg : Cfg) (w : Connection) (n : WireNo) (seg : Seg) (j : Job) (es : List Event) (p : Places) (o : Octets) → cfg.window < 2 ^ 16 → IsFramed seg → Agrees w j es → IsKept cfg j.connection → IsCut (rcv_wnd cfg j.connection) j.connection.rcv (past_of (seq_of j.connection seg.head)) seg p o → Texts w n seg (if p.to == p.from then texted (at w j es) (stands_next seg.head (tcb_of j.connection)) else received_part cfg p (has_flag seg.head.flags FIN && p.whole) (at w j es)) (if length o.bytes == 0 then (j, ends_next seg j.connection) else received cfg o n (has_flag seg.head.flags FIN && o.whole) j)
+texts-octets cfg w n seg j es p o window framed a k cut =
+    let test : (p.to == p.from) ≡ (length o.bytes == 0) = empty_test p.from p.to (length o.bytes) cut.len cut.order in
+    elim (cases_Bool (p.to == p.from)) [
+      | inl none ↦
+          let none_then : (length o.bytes == 0) ≡ true = sym test ∙ none in
+          rw (none, none_then) (texts-nothing w n seg j es framed a)
+      | inr more ↦
+          let more_then : (length o.bytes == 0) ≡ false = sym test ∙ more in
+          let order : p.from ≤ p.to = cut.order in
+          rw (more, more_then)
+          (subst (λ (b : Bool). Texts w n seg (received_part cfg p (has_flag seg.head.flags FIN && b) (at w j es)) (received cfg o n (has_flag seg.head.flags FIN && o.whole) j)) cut.whole
+          (texts-received cfg w n seg j es p o window a k cut (grind (arith, common_steps, more))))
+    ]
+
+texts-body : (cfg : Cfg) (w : Connection) (n : WireNo) (seg : Seg) (j : Job) (es : List Event) → cfg.window < 2 ^ 16 → IsFramed seg → Agrees w j es → IsKept cfg j.connection → Texts w n seg (body_part cfg seg.head (at w j es)) (body cfg n seg j)
+unfolding body_part body
+texts-body cfg w n seg j es window framed a k =
+    elim (cases_Bool (takes_body j.connection.state)) [
+      | inr not_taken ↦ rw not_taken (texts-nothing w n seg j es framed a)
+      | inl takes_it ↦ rw takes_it
+          (texts-octets cfg w n seg j es (octets_in (rcv_wnd cfg j.connection) (seq_of j.connection seg.head) seg.head.len) (octets j.connection.rcv (rcv_wnd cfg j.connection) (seq_of j.connection seg.head) seg.head.at seg.body) window framed a k (octets-cut (rcv_wnd cfg j.connection) j.connection.rcv j.connection seg framed))
+    ]
+
+-- ## The FIN
+-- a verdict with what was held let go, and with these events
+abbrev over : Verdict → List Event → Verdict
+over v es = record (let_go v) { told = record { items = es } }
+
+pieces-let_go : (w : Connection) (n : WireNo) (seg : Seg) (v : Verdict) (es : List Event) → pieces_of w n seg (over v es) ≡ pieces_of w n seg v
+pieces-let_go w n seg v es = ap (λ (l : List Piece). body_pieces w.accepted n seg v.take ++ l) (dropped-pieces w.accepted w.held v.held.items)
+
+said-fin : (w : Connection) (n : WireNo) (seg : Seg) (j : Job) (v : Verdict) (s : Bool) (c : Connection) (es : List Event) (os : List Output) → s ≡ true → Texts w n seg (texted (work (tcb_of j.connection) v) s) (j, s) → c.pieces ≡ j.connection.pieces → c.held ≡ [] → acked_data c ≡ acked_data j.connection → is_closed c.state ≡ false → first_told es ≡ first_told v.told.items → last_told es ≡ os → Says w n seg (work (tcb_of c) (over v es)) (record { connection = c; outputs = j.outputs ++ os })
+said-fin w n seg j v s c es os stands t pieces held acked alive first last =
+    let none : v.reply ≡ None = t.quiet stands in
+    let A : List Output = first_told v.told.items in
+    let B : List Output = told_pieces (pieces_of w n seg v) in
+    let before : A ++ B ≡ j.outputs =
+    sym (append-nil (A ++ B)) ∙ sym (append-nil (A ++ B ++ []))
+    ∙ ap (λ (r : Option SegHead). A ++ B ++ reply_of r ++ []) (sym none)
+    ∙ ap (λ (l : List Output). A ++ B ++ reply_of v.reply ++ l) (sym t.last)
+    ∙ t.says.outputs in
+    record {
+      numbers = refl;
+      outputs =
+          ap (λ (l : List Output). l ++ told_pieces (pieces_of w n seg (over v es)) ++ reply_of v.reply ++ last_told es) first
+          ∙ ap (λ (l : List Piece). A ++ told_pieces l ++ reply_of v.reply ++ last_told es) (pieces-let_go w n seg v es)
+          ∙ ap (λ (r : Option SegHead). A ++ B ++ reply_of r ++ last_told es) none
+          ∙ ap (λ (l : List Output). l ++ last_told es) (append-nil (A ++ B) ∙ before)
+          ∙ ap (λ (l : List Output). j.outputs ++ l) last;
+      pieces = pieces ∙ t.says.pieces ∙ ap (λ (l : List Piece). w.pieces ++ l) (sym (pieces-let_go w n seg v es));
+      held = held ∙ sym (ap (held_with w n seg v.take) (dropped-held w.held v.held.items) ∙ t.loose stands);
+      acked = t.says.acked ∙ ap (λ (m : ℕ). m - acked_data w) (sym acked);
+      ended = t.says.ended ∙ sym (lives w j.connection t.alive) ∙ lives w c alive;
+    }
+
+-- nothing is told of the end
+said-fin_quiet : (w : Connection) (n : WireNo) (seg : Seg) (j : Job) (v : Verdict) (s : Bool) (c : Connection) → s ≡ true → Texts w n seg (texted (work (tcb_of j.connection) v) s) (j, s) → c.pieces ≡ j.connection.pieces → c.held ≡ [] → acked_data c ≡ acked_data j.connection → is_closed c.state ≡ false → Says w n seg (work (tcb_of c) (let_go v)) (on j c)
+said-fin_quiet w n seg j v s c stands t pieces held acked alive =
+    subst (λ (l : List Output). Says w n seg (work (tcb_of c) (let_go v)) (record { connection = c; outputs = l })) (append-nil j.outputs)
+    (said-fin w n seg j v s c v.told.items [] stands t pieces held acked alive refl t.last)
+
+-- the end of the stream, behind everything else that is told
+end-first : (es : List Event) → first_told (es ++ record { told = told.RecvEnd } ∷ []) ≡ first_told es
+end-first [] = refl
+end-first (e ∷ es) =
+    elim (cases_Bool (is_end e.told)) [
+      | inl last ↦ rw last (end-first es)
+      | inr before ↦ rw before (ap (λ (l : List Output). outputs.Told e.told ∷ l) (end-first es))
+    ]
+
+end-last : (es : List Event) → last_told (es ++ record { told = told.RecvEnd } ∷ []) ≡ last_told es ++ outputs.Told told.RecvEnd ∷ []
+end-last [] = refl
+end-last (e ∷ es) =
+    elim (cases_Bool (is_end e.told)) [
+      | inl last ↦ rw last (ap (λ (l : List Output). outputs.Told e.told ∷ l) (end-last es))
+      | inr before ↦ rw before (end-last es)
+    ]
+
+behind-fin : (w : Connection) → behind_fin (tcb_of w) ≡ tcb_of (past_fin w)
+behind-fin w = ap (λ (r : ℕ). record (tcb_of w) { rcv_nxt = r; ack_owed = true; held = record { items = [] } }) (sym (goes_on w.irs w.rcv 1))
+
+says-fin_in : (st : State) (cfg : Cfg) (now : ℕ) (w : Connection) (n : WireNo) (seg : Seg) (j : Job) (v : Verdict) (s : Bool) → j.connection.state ≡ st → s ≡ true → Texts w n seg (texted (work (tcb_of j.connection) v) s) (j, s) → Says w n seg (fin_part_in st cfg now (work (tcb_of (past_fin j.connection)) (let_go v))) (fin_taken_in st cfg now j (past_fin j.connection))
+says-fin_in st.Established cfg now w n seg j v s is stands t = by_test (j.connection.accepted && not j.connection.shut)
+  where
+    by_test : (b : Bool) → Says w n seg (if b then announces (work (tcb_of (record (past_fin j.connection) { state = st.CloseWait })) (let_go v)) told.RecvEnd else work (tcb_of (record (past_fin j.connection) { state = st.CloseWait })) (let_go v)) (if b then gives (on j (record (past_fin j.connection) { state = st.CloseWait })) (outputs.Told told.RecvEnd) else on j (record (past_fin j.connection) { state = st.CloseWait }))
+    by_test true = said-fin w n seg j v s (record (past_fin j.connection) { state = st.CloseWait }) (v.told.items ++ record { told = told.RecvEnd } ∷ []) (outputs.Told told.RecvEnd ∷ []) stands t refl refl refl refl (end-first v.told.items) (end-last v.told.items ∙ ap (λ (l : List Output). l ++ outputs.Told told.RecvEnd ∷ []) t.last)
+    by_test false = said-fin_quiet w n seg j v s (record (past_fin j.connection) { state = st.CloseWait }) stands t refl refl refl refl
+says-fin_in st.FinWait1 cfg now w n seg j v s is stands t = said-fin_quiet w n seg j v s (record (past_fin j.connection) { state = st.Closing }) stands t refl refl refl refl
+says-fin_in st.FinWait2 cfg now w n seg j v s is stands t = said-fin_quiet w n seg j v s (record (past_fin j.connection) { state = st.TimeWait; deadline = Some (later now cfg.time_wait) }) stands t refl refl refl refl
+says-fin_in _ cfg now w n seg j v s is stands t = said-fin_quiet w n seg j v s (past_fin j.connection) stands t refl refl refl t.alive
+
+-- a FIN without a body that is not next is answered
+says-fin_ahead : (cfg : Cfg) (w : Connection) (n : WireNo) (seg : Seg) (j : Job) (v : Verdict) (s : Bool) → (seg.head.len == 0) ≡ true → Texts w n seg (texted (work (tcb_of j.connection) v) s) (j, s) → Says w n seg (replies (work (tcb_of j.connection) v) (ack_head cfg (tcb_of j.connection))) (gives j (ack_frame cfg j.connection))
+says-fin_ahead cfg w n seg j v s bare t =
+    let none : v.reply ≡ None = t.bare bare in
+    let A : List Output = first_told v.told.items in
+    let B : List Output = told_pieces (pieces_of w n seg v) in
+    let before : A ++ B ≡ j.outputs =
+    sym (append-nil (A ++ B)) ∙ sym (append-nil (A ++ B ++ []))
+    ∙ ap (λ (r : Option SegHead). A ++ B ++ reply_of r ++ []) (sym none)
+    ∙ ap (λ (l : List Output). A ++ B ++ reply_of v.reply ++ l) (sym t.last)
+    ∙ t.says.outputs in
+    record {
+      numbers = refl;
+      outputs = ap (λ (l : List Output). A ++ B ++ ack_frame cfg j.connection ∷ [] ++ l) t.last ∙ append-nil (A ++ B ++ ack_frame cfg j.connection ∷ []) ∙ ap (λ (l : List Output). l ++ ack_frame cfg j.connection ∷ []) before;
+      pieces = t.says.pieces;
+      held = t.says.held;
+      acked = t.says.acked;
+      ended = t.says.ended;
+    }
+
+says-finished_at : (cfg : Cfg) (now : ℕ) (w : Connection) (n : WireNo) (seg : Seg) (j : Job) (v : Verdict) (s : Bool) → Texts w n seg (texted (work (tcb_of j.connection) v) s) (j, s) → Says w n seg (finished_part cfg seg.head now (texted (work (tcb_of j.connection) v) s)) (finished cfg seg.head now s j)
+unfolding finished_part finished fin_part fin_taken
+says-finished_at cfg now w n seg j v true t =
+    subst (λ (x : Tcb). Says w n seg (fin_part_in j.connection.state cfg now (work x (let_go v))) (fin_taken_in j.connection.state cfg now j (past_fin j.connection))) (sym (behind-fin j.connection))
+    (says-fin_in j.connection.state cfg now w n seg j v true refl refl t)
+says-finished_at cfg now w n seg j v false t = by_tests (has_flag seg.head.flags FIN) (seg.head.len == 0) (is_past (rcv_nxt j.connection) seg.head.seq) refl
+  where
+    by_tests : (a b c : Bool) → (seg.head.len == 0) ≡ b → Says w n seg (if a && b && c then replies (work (tcb_of j.connection) v) (ack_head cfg (tcb_of j.connection)) else work (tcb_of j.connection) v) (if a && b && c then gives j (ack_frame cfg j.connection) else j)
+    by_tests true true true e = says-fin_ahead cfg w n seg j v false e t
+    by_tests true true false e = t.says
+    by_tests true false c e = t.says
+    by_tests false b c e = t.says
+
+-- ## Both
+says-finished : (cfg : Cfg) (now : ℕ) (w : Connection) (n : WireNo) (seg : Seg) (b : Texted) (r : Job × Bool) → Texts w n seg b r → Says w n seg (finished_part cfg seg.head now b) (finished cfg seg.head now r.1 r.0)
+says-finished cfg now w n seg b r t =
+    let same : texted (work (tcb_of r.0.connection) b.work.verdict) r.1 ≡ b =
+    ap (λ (x : Tcb). texted (work x b.work.verdict) r.1) (sym t.says.numbers) ∙ ap (λ (s : Bool). texted b.work s) (sym t.stands) in
+    let at_connection : Texts w n seg (texted (work (tcb_of r.0.connection) b.work.verdict) r.1) r = subst (λ (x : Texted). Texts w n seg x r) (sym same) t in
+    subst (λ (x : Texted). Says w n seg (finished_part cfg seg.head now x) (finished cfg seg.head now r.1 r.0)) same
+    (says-finished_at cfg now w n seg r.0 b.work.verdict r.1 at_connection)
+
+pub says-text : (cfg : Cfg) (now : ℕ) (w : Connection) (n : WireNo) (seg : Seg) (j : Job) (es : List Event) → cfg.window < 2 ^ 16 → IsFramed seg → Agrees w j es → IsKept cfg j.connection → Says w n seg (text_part cfg seg.head now (at w j es)) (text_and_fin cfg n seg now j)
+unfolding text_part text_and_fin
+says-text cfg now w n seg j es window framed a k =
+    says-finished cfg now w n seg (body_part cfg seg.head (at w j es)) (body cfg n seg j) (texts-body cfg w n seg j es window framed a k)
