@@ -6,3 +6,5 @@ pub mod AckLemmas
 pub mod FillLemmas
 pub mod HoleLemmas
 pub mod TextLemmas
+pub mod OpeningLemmas
+pub mod ArrivalLemmas

@@ -126,7 +126,7 @@ last-more (d ∷ es) e other =
     ]
 
 -- ## A segment that is done with
-said : (w : Connection) (n : WireNo) (seg : Seg) (c : Connection) (v : Verdict) (os : List Output) → v.take ≡ takes.Nothing → held_pieces w.accepted w.held v.held.items ≡ [] → kept_held w.held v.held.items ≡ c.held → first_told v.told.items ≡ os → last_told v.told.items ≡ [] → c.pieces ≡ w.pieces → v.acked ≡ acked_data c - acked_data w → v.ended ≡ has_ended w c → Says w n seg (work (tcb_of c) v) (record { connection = c; outputs = os ++ reply_of v.reply })
+pub said : (w : Connection) (n : WireNo) (seg : Seg) (c : Connection) (v : Verdict) (os : List Output) → v.take ≡ takes.Nothing → held_pieces w.accepted w.held v.held.items ≡ [] → kept_held w.held v.held.items ≡ c.held → first_told v.told.items ≡ os → last_told v.told.items ≡ [] → c.pieces ≡ w.pieces → v.acked ≡ acked_data c - acked_data w → v.ended ≡ has_ended w c → Says w n seg (work (tcb_of c) v) (record { connection = c; outputs = os ++ reply_of v.reply })
 said w n seg c v os none quiet held first last pieces acked over =
     record {
       numbers = refl;
