@@ -19,7 +19,9 @@ use Rattle.ix_tcpdef.specs.declared.types.State.TheVariants as st
 use Rattle.ix_tcpdef.specs.declared.types.Connection.{Connection}
 use Rattle.ix_tcpdef.specs.declared.types.Input.TheVariants as inputs
 use Rattle.ix_tcpdef.specs.declared.types.Job.{Job}
+use Rattle.ix_tcpdef.specs.declared.types.HeldHead.{HeldHead}
 use Rattle.ix_tcpdef.specs.declared.types.Tcb.{Tcb}
+use Rattle.ix_tcpin.specs.declared.verdict.Verdict.{Verdict}
 use Rattle.ix_tcb.specs.Stands.{tcb_of, head_of, HasOpened}
 use Rattle.ix_tcpin.specs.Work.{Work, work, Course, Onward, Done, blank, work_of}
 use Rattle.ix_tcpin.specs.Checks.{acceptability_part, reset_part, synchronize_part, unacknowledged_part}
@@ -92,3 +94,9 @@ arrival_stands cfg t h now w n seg small ack window m =
     subst (λ (x : Tcb). Says w n seg (arrived_part cfg h now (work x (blank x.held.items))) (step cfg w (inputs.Segment n seg) now)) (sym m.stands)
     (subst (λ (x : SegHead). Says w n seg (arrived_part cfg x now (work (tcb_of w) (blank (map (head_of w.irs) w.held)))) (step cfg w (inputs.Segment n seg) now)) m.head
     (says-arrived cfg now w n seg small (subst (λ (x : SegHead). x.ack < 2 ^ 32) (sym m.head) ack) (subst (λ (x : SegHead). x.window < 2 ^ 16) (sym m.head) window) m.kept m.opened m.framed))
+
+-- as the code has it: held is what is held, blank the verdict to begin with
+pub says-of : (cfg : Cfg) (t : Tcb) (h : SegHead) (now : ℕ) (w : Connection) (n : WireNo) (seg : Seg) (heads : List HeldHead) (begun : Verdict) (new : Tcb) (v : Verdict) → cfg.window < 2 ^ 16 → h.ack < 2 ^ 32 → h.window < 2 ^ 16 → heads ≡ t.held.items → begun ≡ blank heads → work new v ≡ arrived_part cfg h now (work t begun) → Meets cfg t h w seg → Says w n seg (work new v) (step cfg w (inputs.Segment n seg) now)
+says-of cfg t h now w n seg heads begun new v small ack window held blank_is is m =
+    subst (λ (x : Work). Says w n seg x (step cfg w (inputs.Segment n seg) now)) (sym (is ∙ ap (λ (b : Verdict). arrived_part cfg h now (work t b)) (blank_is ∙ ap blank held)))
+    (arrival_stands cfg t h now w n seg small ack window m)

@@ -1,7 +1,15 @@
 // Arrival of a segment.
-ghost use Rattle.std.specs.Prelude.{◌≡◌, ◌≤◌, ◌<◌, true, []};
-ghost use Rattle.ix_tcpdef.specs.Sound.{FitsPeer, has_windows};
-ghost use Rattle.ix_tcpin.specs.Work.{work, work_of, blank};
+ghost use Rattle.std.specs.Prelude.{◌≡◌, ◌≤◌, ◌<◌, ◌-◌, ◌++◌, []};
+ghost use Rattle.ix_base.specs.declared.id.WireNo.{WireNo as AWireNo};
+ghost use Rattle.ix_base.specs.declared.segment.Seg.{Seg as ASeg};
+ghost use Rattle.ix_tcpdef.specs.Connection.{acked_data};
+ghost use Rattle.ix_tcpdef.specs.Sound.{FitsPeer};
+ghost use Rattle.ix_tcpdef.specs.Step.{step};
+ghost use Rattle.ix_tcpdef.specs.declared.types.Connection.{Connection};
+ghost use Rattle.ix_tcpdef.specs.declared.types.Input.TheVariants as inputs;
+ghost use Rattle.ix_tcb.specs.Stands.{tcb_of};
+ghost use Rattle.ix_tcpin.specs.Work.{work, work_of};
+ghost use Rattle.ix_tcpin.specs.Verdict.{Meets, outputs_of, pieces_of, held_of, has_ended};
 ghost use Rattle.ix_tcpin.specs.Arrived.{checked_part, arrived_part};
 
 use crate::acknowledgement::acknowledgement;
@@ -53,11 +61,21 @@ fn take(cfg: &Cfg, head: &SegHead, now: u64, tcb: &mut Tcb, verdict: &mut Verdic
     }
 }
 
-/// A segment arrives.
+/// A segment arrives, of which the head is given. Of every connection that keeps its standing condition and that the numbers stand for, and of
+/// every segment with this head, the numbers are left as those of the connection after its step, and the verdict says what that step did.
 pub fn arrive(cfg: &Cfg, tcb: &mut Tcb, head: &SegHead, now: u64) -> Verdict
     requires { FitsPeer tcb.old.state tcb.old.mss tcb.old.wnd tcb.old.cwnd tcb.old.ssthresh }
-    ensures { work tcb.new result ≡ arrived_part cfg.now head.now now (work tcb.old (blank tcb.old.held.items)) }
+    ensures numbers { (w : Connection) (n : AWireNo) (seg : ASeg) → Meets cfg.now tcb.old head.now w seg → tcb.new ≡ tcb_of (step cfg.now w (inputs.Segment n seg) now).connection }
+    ensures outputs { (w : Connection) (n : AWireNo) (seg : ASeg) → Meets cfg.now tcb.old head.now w seg → outputs_of w n seg result ≡ (step cfg.now w (inputs.Segment n seg) now).outputs }
+    ensures pieces { (w : Connection) (n : AWireNo) (seg : ASeg) → Meets cfg.now tcb.old head.now w seg → (step cfg.now w (inputs.Segment n seg) now).connection.pieces ≡ w.pieces ++ pieces_of w n seg result }
+    ensures held { (w : Connection) (n : AWireNo) (seg : ASeg) → Meets cfg.now tcb.old head.now w seg → (step cfg.now w (inputs.Segment n seg) now).connection.held ≡ held_of w n seg result }
+    ensures acked { (w : Connection) (n : AWireNo) (seg : ASeg) → Meets cfg.now tcb.old head.now w seg → result.acked ≡ acked_data (step cfg.now w (inputs.Segment n seg) now).connection - acked_data w }
+    ensures ended { (w : Connection) (n : AWireNo) (seg : ASeg) → Meets cfg.now tcb.old head.now w seg → result.ended ≡ has_ended w (step cfg.now w (inputs.Segment n seg) now).connection }
 {
+    // A proof knows the range of what is read.
+    let _window = cfg.window;
+    let _ack = head.ack;
+    let _peer_window = head.window;
     let mut verdict = Verdict::blank(tcb.held.as_slice());
     take(cfg, head, now, tcb, &mut verdict);
     verdict

@@ -1,0 +1,49 @@
+use Rattle.std.proofs.Common.{◌^◌, ◌<◌, rules}
+use Rattle.ix_tcpdef.specs.Step.{step}
+use Rattle.ix_tcpdef.specs.declared.types.Input.TheVariants as inputs
+use Rattle.ix_tcpin.specs.Work.{work}
+use Rattle.ix_tcpin.proofs.Relation.{Says}
+use Rattle.ix_tcpin.proofs.ArrivalLemmas.{says-of}
+use Rattle.ix_tcpin.proofs.arrival.arrive.Goals as goal
+
+pub returns-clause-numbers : goal.returns-clause-numbers
+returns-clause-numbers c w n seg meets =
+    let small : c.args.cfg.now.window < 2 ^ 16 = search rules in
+    let ack : c.args.head.now.ack < 2 ^ 32 = search rules in
+    let window : c.args.head.now.window < 2 ^ 16 = search rules in
+    (says-of c.args.cfg.now c.args.tcb.now c.args.head.now c.args.now w n seg c.as_slice.result.now c.blank-verdict.result c.take.new.tcb c.take.new.verdict small ack window c.as_slice.ensures.value c.blank-verdict.ensures c.take.ensures meets).numbers
+
+pub returns-clause-outputs : goal.returns-clause-outputs
+returns-clause-outputs c w n seg meets =
+    let small : c.args.cfg.now.window < 2 ^ 16 = search rules in
+    let ack : c.args.head.now.ack < 2 ^ 32 = search rules in
+    let window : c.args.head.now.window < 2 ^ 16 = search rules in
+    (says-of c.args.cfg.now c.args.tcb.now c.args.head.now c.args.now w n seg c.as_slice.result.now c.blank-verdict.result c.take.new.tcb c.take.new.verdict small ack window c.as_slice.ensures.value c.blank-verdict.ensures c.take.ensures meets).outputs
+
+pub returns-clause-pieces : goal.returns-clause-pieces
+returns-clause-pieces c w n seg meets =
+    let small : c.args.cfg.now.window < 2 ^ 16 = search rules in
+    let ack : c.args.head.now.ack < 2 ^ 32 = search rules in
+    let window : c.args.head.now.window < 2 ^ 16 = search rules in
+    (says-of c.args.cfg.now c.args.tcb.now c.args.head.now c.args.now w n seg c.as_slice.result.now c.blank-verdict.result c.take.new.tcb c.take.new.verdict small ack window c.as_slice.ensures.value c.blank-verdict.ensures c.take.ensures meets).pieces
+
+pub returns-clause-held : goal.returns-clause-held
+returns-clause-held c w n seg meets =
+    let small : c.args.cfg.now.window < 2 ^ 16 = search rules in
+    let ack : c.args.head.now.ack < 2 ^ 32 = search rules in
+    let window : c.args.head.now.window < 2 ^ 16 = search rules in
+    (says-of c.args.cfg.now c.args.tcb.now c.args.head.now c.args.now w n seg c.as_slice.result.now c.blank-verdict.result c.take.new.tcb c.take.new.verdict small ack window c.as_slice.ensures.value c.blank-verdict.ensures c.take.ensures meets).held
+
+pub returns-clause-acked : goal.returns-clause-acked
+returns-clause-acked c w n seg meets =
+    let small : c.args.cfg.now.window < 2 ^ 16 = search rules in
+    let ack : c.args.head.now.ack < 2 ^ 32 = search rules in
+    let window : c.args.head.now.window < 2 ^ 16 = search rules in
+    (says-of c.args.cfg.now c.args.tcb.now c.args.head.now c.args.now w n seg c.as_slice.result.now c.blank-verdict.result c.take.new.tcb c.take.new.verdict small ack window c.as_slice.ensures.value c.blank-verdict.ensures c.take.ensures meets).acked
+
+pub returns-clause-ended : goal.returns-clause-ended
+returns-clause-ended c w n seg meets =
+    let small : c.args.cfg.now.window < 2 ^ 16 = search rules in
+    let ack : c.args.head.now.ack < 2 ^ 32 = search rules in
+    let window : c.args.head.now.window < 2 ^ 16 = search rules in
+    (says-of c.args.cfg.now c.args.tcb.now c.args.head.now c.args.now w n seg c.as_slice.result.now c.blank-verdict.result c.take.new.tcb c.take.new.verdict small ack window c.as_slice.ensures.value c.blank-verdict.ensures c.take.ensures meets).ended
