@@ -36,11 +36,11 @@ use Rattle.ix_tcpin.proofs.TextLemmas.{says-text}
 use Rattle.ix_tcpin.proofs.OpeningLemmas.{start, begins, says-opening, says-syn_sent}
 
 -- ## Behind the opening
-record StaysKept (cfg : Cfg) (w : Connection) (k : Work) (j : Job) : Type 0 where
-  stays : Stays w k j
-  kept : IsKept cfg j.connection
+pub record StaysKept (cfg : Cfg) (w : Connection) (k : Work) (j : Job) : Type 0 where
+  pub stays : Stays w k j
+  pub kept : IsKept cfg j.connection
 
-leads-kept : (cfg : Cfg) (w : Connection) (S : Work → Job → Type 0) (a : Course) (b : Next) → Leads (Stays w) S a b → LeavesKept cfg b → Leads (StaysKept cfg w) S a b
+pub leads-kept : (cfg : Cfg) (w : Connection) (S : Work → Job → Type 0) (a : Course) (b : Next) → Leads (Stays w) S a b → LeavesKept cfg b → Leads (StaysKept cfg w) S a b
 leads-kept cfg w S (Onward k) (Goes j) l kept = record { stays = l; kept = kept.kept }
 leads-kept cfg w S (Onward k) (Stops j) l kept = elim l [ ]
 leads-kept cfg w S (Done k) (Goes j) l kept = elim l [ ]
@@ -77,7 +77,7 @@ says-arrived_in st.SynSent cfg now w n seg is small ack window k opened framed =
 says-arrived_in _ cfg now w n seg is small ack window k opened framed =
     leads-end (Says w n seg) _ _ (leads-checked cfg now w n seg small ack window (ap is_checked is) (ap is_closed is) k opened framed)
 
-begin_as : (w : Connection) → work (tcb_of w) (blank (map (head_of w.irs) w.held)) ≡ at w (start w) []
+pub begin_as : (w : Connection) → work (tcb_of w) (blank (map (head_of w.irs) w.held)) ≡ at w (start w) []
 begin_as w =
     let none : 0 ≡ acked_data w - acked_data w = omega arith in
     ap (λ (m : ℕ). work (tcb_of w) (so_far w m [])) none

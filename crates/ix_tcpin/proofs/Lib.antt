@@ -8,3 +8,5 @@ pub mod HoleLemmas
 pub mod TextLemmas
 pub mod OpeningLemmas
 pub mod ArrivalLemmas
+pub mod RangeLemmas
+pub mod TakeLemmas

@@ -125,7 +125,7 @@ said-taken w n seg j i r es c p o t us a part d f =
     }
 
 -- a segment at what is expected
-taken_place : (past rcv at : ℕ) → at ≡ rcv + past → (past == 0) ≡ (at == rcv)
+pub taken_place : (past rcv at : ℕ) → at ≡ rcv + past → (past == 0) ≡ (at == rcv)
 taken_place past rcv at is =
     elim (cases_Bool (past == 0)) [ inl here ↦ grind (arith, common_steps, here) | inr beyond ↦ grind (arith, common_steps, beyond) ]
 
@@ -193,14 +193,18 @@ has-body len from to o some within none =
     let zero_len : len ≡ 0 = grind (arith, common_steps, none) in
     absurd (omega arith)
 
+-- the test of room over numbers
+pub waits-as : (cfg : Cfg) (seg : Seg) (c : Connection) (p : Places) (o : Octets) → cfg.window < 2 ^ 16 → IsKept cfg c → IsCut (rcv_wnd cfg c) c.rcv (past_of (seq_of c seg.head)) seg p o → (nat_lt (length (map (head_of c.irs) c.held)) 8 && list_all (is_beside (number c.irs c.rcv) p) (map (head_of c.irs) c.held)) ≡ (nat_lt (length c.held) 8 && list_all (is_apart o) c.held)
+waits-as cfg seg c p o window k cut =
+    let top : ℕ = c.rcv + (cfg.window - c.unread) in
+    ap (λ (m : ℕ). nat_lt m 8 && list_all (is_beside (number c.irs c.rcv) p) (map (head_of c.irs) c.held)) (length-map c.held (head_of c.irs))
+    ∙ ap (λ (b : Bool). nat_lt (length c.held) 8 && b) (beside-all c.irs c.rcv (c.rcv + 1) top p o c.held cut.at cut.len (omega arith) (omega arith) k.sound.receiver.rising k.standing.buffer.held_fits)
+
 texts-hole : (cfg : Cfg) (w : Connection) (n : WireNo) (seg : Seg) (j : Job) (es : List Event) (p : Places) (o : Octets) → cfg.window < 2 ^ 16 → Agrees w j es → IsKept cfg j.connection → IsCut (rcv_wnd cfg j.connection) j.connection.rcv (past_of (seq_of j.connection seg.head)) seg p o → p.from < p.to → Texts w n seg (texted (replies (waiting_part p (has_flag seg.head.flags FIN && o.whole) (at w j es)) (ack_head cfg (tcb_of j.connection))) false) (gives (on j (waiting o n (has_flag seg.head.flags FIN && o.whole) j.connection)) (ack_frame cfg j.connection), false)
 unfolding waiting_part waiting
 texts-hole cfg w n seg j es p o window a k cut some =
     let c : Connection = j.connection in
-    let top : ℕ = c.rcv + (cfg.window - c.unread) in
-    let test : (nat_lt (length (map (head_of c.irs) c.held)) 8 && list_all (is_beside (number c.irs c.rcv) p) (map (head_of c.irs) c.held)) ≡ (nat_lt (length c.held) 8 && list_all (is_apart o) c.held) =
-    ap (λ (m : ℕ). nat_lt m 8 && list_all (is_beside (number c.irs c.rcv) p) (map (head_of c.irs) c.held)) (length-map c.held (head_of c.irs))
-    ∙ ap (λ (b : Bool). nat_lt (length c.held) 8 && b) (beside-all c.irs c.rcv (c.rcv + 1) top p o c.held cut.at cut.len (omega arith) (omega arith) k.sound.receiver.rising k.standing.buffer.held_fits) in
+    let test : (nat_lt (length (map (head_of c.irs) c.held)) 8 && list_all (is_beside (number c.irs c.rcv) p) (map (head_of c.irs) c.held)) ≡ (nat_lt (length c.held) 8 && list_all (is_apart o) c.held) = waits-as cfg seg c p o window k cut in
     subst (λ (b : Bool). Texts w n seg (texted (replies (if b then work (holds (insert (map (head_of c.irs) c.held) (place_among (number c.irs c.rcv) p.past (map (head_of c.irs) c.held)) (head_held (number c.irs c.rcv) p (has_flag seg.head.flags FIN && o.whole))) (tcb_of c)) (record (so_far w (acked_data c - acked_data w) es) { take = takes.Hold p.from p.to }) else at w j es) (ack_head cfg (tcb_of c))) false) (gives (on j (if nat_lt (length c.held) 8 && list_all (is_apart o) c.held then record c { held = held_among (record { at = o.at; w = n; from = o.from; bytes = o.bytes; fin = has_flag seg.head.flags FIN && o.whole }) c.held } else c)) (ack_frame cfg c), false)) (sym test)
     (by_test (nat_lt (length c.held) 8 && list_all (is_apart o) c.held))
   where
@@ -241,7 +245,7 @@ texts-received cfg w n seg j es p o window a k cut some =
           rw (beyond, not_next) (texts-hole cfg w n seg j es p o window a k cut some)
     ]
 
-empty_test : (from to len : ℕ) → len ≡ to - from → from ≤ to → (to == from) ≡ (len == 0)
+pub empty_test : (from to len : ℕ) → len ≡ to - from → from ≤ to → (to == from) ≡ (len == 0)
 empty_test from to len is order =
     elim (cases_Bool (to == from)) [ inl level ↦ grind (arith, common_steps, level) | inr more ↦ grind (arith, common_steps, more) ]
 

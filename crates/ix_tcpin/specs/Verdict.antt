@@ -1,19 +1,25 @@
 -- What a verdict says of a connection, of a segment, and of what is held.
-use Rattle.std.specs.Prelude.{◌≡◌, ℕ, ◌+◌, ◌-◌, ◌≤◌, ◌<◌, Bool, true, false, ◌&&◌, ◌==◌, not, if◌then◌else◌, List, [], ◌∷◌, ◌++◌, length, take, drop, Option, Some, None}
+use Rattle.std.specs.Prelude.{◌≡◌, ℕ, ◌+◌, ◌-◌, ◌≤◌, ◌<◌, Bool, true, false, nat_lt, ◌&&◌, ◌==◌, not, if◌then◌else◌, List, [], ◌∷◌, ◌++◌, length, take, drop, Option, Some, None}
+use Rattle.std.specs.List.{list_all}
 use Rattle.ix_base.specs.declared.id.WireNo.{WireNo}
 use Rattle.ix_base.specs.declared.segment.Seg.{Seg}
 use Rattle.ix_base.specs.declared.segment.SegHead.{SegHead}
 use Rattle.ix_tcpdef.specs.Numbers.{has_flag, past_of}
-use Rattle.ix_tcpdef.specs.Connection.{acked_data, is_closed, seq_of}
-use Rattle.ix_tcpdef.specs.Body.{held_among}
+use Rattle.ix_tcpdef.specs.Connection.{acked_data, is_closed, rcv_wnd, seq_of}
+use Rattle.ix_tcpdef.specs.Arrival.{Next, Goes, Stops, ◌>>=◌, acceptability, reset, synchronize, unacknowledged}
+use Rattle.ix_tcpdef.specs.Acknowledgement.{acknowledgement}
+use Rattle.ix_tcpdef.specs.Body.{octets, is_apart, held_among, takes_body}
 use Rattle.ix_tcpdef.specs.Calls.{recv_of}
 use Rattle.ix_tcpdef.specs.Needs.{IsFramed}
 use Rattle.ix_tcpdef.specs.Sound.{IsKept}
 use Rattle.ix_tcpdef.specs.declared.types.Cfg.{Cfg}
+use Rattle.ix_tcpdef.specs.declared.types.State.{State}
+use Rattle.ix_tcpdef.specs.declared.types.State.TheVariants as st
 use Rattle.ix_tcpdef.specs.declared.types.Connection.{Connection}
 use Rattle.ix_tcpdef.specs.declared.types.HeldHead.{HeldHead}
 use Rattle.ix_tcpdef.specs.declared.types.HeldSegment.{HeldSegment}
 use Rattle.ix_tcpdef.specs.declared.types.Job.{Job}
+use Rattle.ix_tcpdef.specs.declared.types.Octets.{Octets}
 use Rattle.ix_tcpdef.specs.declared.types.Output.{Output}
 use Rattle.ix_tcpdef.specs.declared.types.Output.TheVariants as outputs
 use Rattle.ix_tcpdef.specs.declared.types.Piece.{Piece}
@@ -126,6 +132,51 @@ outputs_of w n seg v =
 abbrev pub has_ended : Connection → Connection → Bool
 has_ended old new = not (is_closed old.state) && is_closed new.state
 
+-- ## What of the body is taken
+-- what a segment makes of a connection up to its body; where it is done with before, nothing of its body is taken
+abbrev pub reached : Cfg → SegHead → ℕ → Job → Next
+reached cfg h now j = do
+  j ← acceptability cfg h now j
+  j ← reset cfg h j
+  j ← synchronize cfg h j
+  j ← unacknowledged h j
+  acknowledgement cfg h now j
+
+-- octets that are held where there is room for them
+abbrev pub is_held : Octets → Connection → Bool
+is_held o c = nat_lt (length c.held) 8 && list_all (is_apart o) c.held
+
+-- the octets in the window, as places in the body
+abbrev pub octets_taken : Octets → ℕ → Connection → Take
+octets_taken o from c =
+    if length o.bytes == 0
+    then takes.Nothing
+    else if o.at == c.rcv
+    then (if c.shut then takes.Discard from (from + length o.bytes) else takes.Deliver from (from + length o.bytes))
+    else if is_held o c
+    then takes.Hold from (from + length o.bytes)
+    else takes.Nothing
+
+abbrev pub body_taken : Cfg → Seg → Connection → Take
+body_taken cfg seg c =
+    if takes_body c.state
+    then (let o : Octets = octets c.rcv (rcv_wnd cfg c) (seq_of c seg.head) seg.head.at seg.body in
+    octets_taken o (o.from - seg.head.at) c)
+    else takes.Nothing
+
+abbrev pub taken_after : Cfg → Seg → Next → Take
+taken_after cfg seg (Goes j) = body_taken cfg seg j.connection
+taken_after cfg seg (Stops j) = takes.Nothing
+
+abbrev pub taken_in : State → Cfg → Seg → ℕ → Connection → Take
+taken_in st.Closed cfg seg now w = takes.Nothing
+taken_in st.Listen cfg seg now w = takes.Nothing
+taken_in st.SynSent cfg seg now w = takes.Nothing
+taken_in _ cfg seg now w = taken_after cfg seg (reached cfg seg.head now (record { connection = w; outputs = [] }))
+
+abbrev pub take_of : Cfg → Connection → Seg → ℕ → Take
+take_of cfg w seg now = taken_in w.state cfg seg now w
+
 -- ## Whatever the numbers stand for
 abbrev pub IsWithin : ℕ → Take → Type 0
 IsWithin len takes.Nothing = Unit {0}
@@ -143,3 +194,19 @@ AreUsesOf [] [] = Unit {0}
 AreUsesOf [] (u ∷ us) = ⊥
 AreUsesOf (s ∷ ss) [] = ⊥
 AreUsesOf (s ∷ ss) (u ∷ us) = IsUseOf s u × AreUsesOf ss us
+
+-- no part of the stream is among the events
+abbrev pub is_part : Told → Bool
+is_part (told.Recv w from len) = true
+is_part _ = false
+
+abbrev pub AreNoParts : List Event → Type 0
+AreNoParts [] = Unit {0}
+AreNoParts (e ∷ es) = (is_part e.told ≡ false) × AreNoParts es
+
+-- len: the body's length; heads: what was held; queued: how many bytes were in the send queue
+pub record LiesWithin (len : ℕ) (heads : List HeldHead) (queued : ℕ) (v : Verdict) : Type 0 where
+  pub take : IsWithin len v.take
+  pub held : AreUsesOf heads v.held.items
+  pub acked : v.acked ≤ queued
+  pub told : AreNoParts v.told.items

@@ -9,7 +9,15 @@ ghost use Rattle.ix_tcpdef.specs.declared.types.Connection.{Connection};
 ghost use Rattle.ix_tcpdef.specs.declared.types.Input.TheVariants as inputs;
 ghost use Rattle.ix_tcb.specs.Stands.{tcb_of};
 ghost use Rattle.ix_tcpin.specs.Work.{work, work_of};
-ghost use Rattle.ix_tcpin.specs.Verdict.{Meets, outputs_of, pieces_of, held_of, has_ended};
+ghost use Rattle.ix_tcpin.specs.Verdict.{
+  Meets,
+  outputs_of,
+  pieces_of,
+  held_of,
+  take_of,
+  has_ended,
+  LiesWithin,
+};
 ghost use Rattle.ix_tcpin.specs.Arrived.{checked_part, arrived_part};
 
 use crate::acknowledgement::acknowledgement;
@@ -69,8 +77,10 @@ pub fn arrive(cfg: &Cfg, tcb: &mut Tcb, head: &SegHead, now: u64) -> Verdict
     ensures outputs { (w : Connection) (n : AWireNo) (seg : ASeg) → Meets cfg.now tcb.old head.now w seg → outputs_of w n seg result ≡ (step cfg.now w (inputs.Segment n seg) now).outputs }
     ensures pieces { (w : Connection) (n : AWireNo) (seg : ASeg) → Meets cfg.now tcb.old head.now w seg → (step cfg.now w (inputs.Segment n seg) now).connection.pieces ≡ w.pieces ++ pieces_of w n seg result }
     ensures held { (w : Connection) (n : AWireNo) (seg : ASeg) → Meets cfg.now tcb.old head.now w seg → (step cfg.now w (inputs.Segment n seg) now).connection.held ≡ held_of w n seg result }
+    ensures take { (w : Connection) (n : AWireNo) (seg : ASeg) → Meets cfg.now tcb.old head.now w seg → result.take ≡ take_of cfg.now w seg now }
     ensures acked { (w : Connection) (n : AWireNo) (seg : ASeg) → Meets cfg.now tcb.old head.now w seg → result.acked ≡ acked_data (step cfg.now w (inputs.Segment n seg) now).connection - acked_data w }
     ensures ended { (w : Connection) (n : AWireNo) (seg : ASeg) → Meets cfg.now tcb.old head.now w seg → result.ended ≡ has_ended w (step cfg.now w (inputs.Segment n seg) now).connection }
+    ensures ranges { LiesWithin head.now.len tcb.old.held.items tcb.old.queued result }
 {
     // A proof knows the range of what is read.
     let _window = cfg.window;
