@@ -109,8 +109,8 @@ unfolding synchronized_part too_far_part
 leaves-synchronized cfg h now k =
     leaves-along k.verdict.take _ _ (leaves-cond _ (is_past k.numbers.nxt h.ack) _ _ (record { take = refl }) (record { take = refl }))
     (λ l same.
-      let i : Work = counts (acked_bytes h l.numbers) (on l (acked_numbers cfg h now l.numbers)) in
-      record { take = (leaves-fin_acked cfg now (sent_part (acked_bytes h l.numbers) i)).take ∙ take-sent (acked_bytes h l.numbers) i ∙ same })
+    let i : Work = counts (acked_bytes h l.numbers) (on l (acked_numbers cfg h now l.numbers)) in
+    record { take = (leaves-fin_acked cfg now (sent_part (acked_bytes h l.numbers) i)).take ∙ take-sent (acked_bytes h l.numbers) i ∙ same })
 
 leaves-acknowledgement : (cfg : Cfg) (h : SegHead) (now : ℕ) (k : Work) → LeavesTake k.verdict.take (acknowledgement_part cfg h now k)
 unfolding acknowledgement_part establishing_part

@@ -275,13 +275,7 @@ fn acknowledge(cfg: &Cfg, head: &SegHead, now: u64, tcb: &mut Tcb)
 
 /// The acknowledgement in the states behind the handshake.
 #[tactic(auto, unfolding(crate::specs::Acknowledgement::synchronized_part))]
-fn synchronized(
-    cfg: &Cfg,
-    head: &SegHead,
-    now: u64,
-    tcb: &mut Tcb,
-    verdict: &mut Verdict,
-) -> bool
+fn synchronized(cfg: &Cfg, head: &SegHead, now: u64, tcb: &mut Tcb, verdict: &mut Verdict) -> bool
     requires mss { 64 ≤ tcb.old.mss }
     requires cwnd { 0 < tcb.old.cwnd }
     requires told { array_vec_len verdict.old.told ≤ 3 }

@@ -14,3 +14,6 @@ mod words;
 
 pub use arrival::arrive;
 pub use verdict::{Event, HeldUse, Take, Uses, Verdict};
+
+#[cfg(test)]
+mod tests;

@@ -281,14 +281,7 @@ fn take_fin(cfg: &Cfg, now: u64, tcb: &mut Tcb, verdict: &mut Verdict)
 
 /// Eighth: the FIN bit.
 #[tactic(auto, unfolding(crate::specs::Text::finished_part))]
-fn finish(
-    cfg: &Cfg,
-    head: &SegHead,
-    now: u64,
-    stands: bool,
-    tcb: &mut Tcb,
-    verdict: &mut Verdict,
-)
+fn finish(cfg: &Cfg, head: &SegHead, now: u64, stands: bool, tcb: &mut Tcb, verdict: &mut Verdict)
     requires { array_vec_len verdict.old.told ≤ 3 }
     ensures { work tcb.new verdict.new ≡ finished_part cfg.now head.now now (texted (work tcb.old verdict.old) stands) }
 {
