@@ -1,20 +1,19 @@
 -- The acknowledgement of a segment over numbers stands for that of the connection.
-use Rattle.std.proofs.Common.{◌≡◌, ℕ, ◌+◌, ◌-◌, ◌^◌, ◌<◌, ◌≤◌, Bool, true, false, if◌then◌else◌, List, [], ◌∷◌, ◌++◌, length, arith, refl, ap, sym, subst, ◌∙◌, inl, inr}
+use Rattle.std.proofs.Common.{◌≡◌, ℕ, ◌+◌, ◌-◌, ◌^◌, ◌<◌, ◌≤◌, Bool, true, false, if◌then◌else◌, List, [], ◌∷◌, ◌++◌, length, arith, refl, ap, sym, subst, ◌∙◌}
 use Rattle.std.specs.Prelude.{nat_lt, ◌&&◌, ◌||◌, ◌==◌, not, min, Some}
-use Rattle.std.proofs.lemmas.Bool.{cases_Bool, cond_both}
+use Rattle.std.proofs.lemmas.Bool.{cond_both}
 use Rattle.ix_base.specs.declared.id.WireNo.{WireNo}
 use Rattle.ix_base.specs.declared.segment.Seg.{Seg}
 use Rattle.ix_base.specs.declared.segment.SegHead.{SegHead}
-use Rattle.ix_tcpdef.specs.Numbers.{number, ahead, is_past, is_at_or_past, later}
-use Rattle.ix_tcpdef.specs.Connection.{snd_una, snd_nxt, acked_data, queued, room, is_closed, is_syn_received, on, gives, tells, ended}
+use Rattle.ix_tcpdef.specs.Numbers.{ahead, is_past, is_at_or_past, later}
+use Rattle.ix_tcpdef.specs.Connection.{snd_una, snd_nxt, acked_data, queued, room, is_closed, is_syn_received, on, gives}
 use Rattle.ix_tcpdef.specs.Frames.{ack_frame, reset_frame}
-use Rattle.ix_tcpdef.specs.Arrival.{Next, Goes, Stops, ◌>>=◌, job_of}
+use Rattle.ix_tcpdef.specs.Arrival.{Goes, Stops, ◌>>=◌}
 use Rattle.ix_tcpdef.specs.Acknowledgement.{is_duplicate, duplicated, advanced, is_newer, unpersisted, windowed, established, establishing, too_far, acked, told_sent, fin_acked_in, fin_acked, synchronized, acknowledgement}
 use Rattle.ix_tcpdef.specs.Needs.{carries}
 use Rattle.ix_tcpdef.specs.Sound.{IsKept, bit}
 use Rattle.ix_tcpdef.proofs.NumberLemmas.{advance_most}
-use Rattle.ix_tcpdef.proofs.KeptArrival.{LeavesKept}
-use Rattle.ix_tcpdef.proofs.KeptAck.{is_checked, kept-acknowledgement}
+use Rattle.ix_tcpdef.proofs.KeptAck.{is_checked}
 use Rattle.ix_tcpdef.specs.declared.types.Cfg.{Cfg}
 use Rattle.ix_tcpdef.specs.declared.types.State.{State}
 use Rattle.ix_tcpdef.specs.declared.types.State.TheVariants as st
@@ -31,9 +30,9 @@ use Rattle.ix_tcpin.specs.declared.verdict.Event.{Event}
 use Rattle.ix_tcpin.specs.Heads.{ack_head, reset_head}
 use Rattle.ix_tcpin.specs.Work as at_work
 use Rattle.ix_tcpin.specs.Work.{Work, work, Course, Onward, Done, along, work_of, replies, announces, ends}
-use Rattle.ix_tcpin.specs.Verdict.{is_end, first_told, last_told}
+use Rattle.ix_tcpin.specs.Verdict.{is_end}
 use Rattle.ix_tcpin.specs.Acknowledgement.{established_numbers, establishing_part, too_far_part, acked_bytes, acked_numbers, sent_part, fin_acked_part_in, fin_acked_part, counts, synchronized_part, acknowledgement_part}
-use Rattle.ix_tcpin.proofs.Relation.{so_far, at, SameText, Agrees, Says, Leads, IsSame, leads-then, leads-same, first-more, last-more, says-answered, says-nothing, says-ended}
+use Rattle.ix_tcpin.proofs.Relation.{so_far, at, SameText, Agrees, Says, Leads, first-more, last-more, says-answered, says-ended}
 use Rattle.ix_tcpin.proofs.CheckLemmas.{says-ack}
 use Rattle.ix_tcpin.proofs.NumberLemmas.{IsFlying, flight_test, flies-acked, same-acked, acked-acked}
 

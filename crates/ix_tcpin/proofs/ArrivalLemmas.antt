@@ -1,11 +1,11 @@
 -- Arrival over numbers stands for a step of the connection.
-use Rattle.std.proofs.Common.{◌≡◌, ℕ, ◌-◌, ◌^◌, ◌<◌, Bool, true, false, if◌then◌else◌, List, [], ◌∷◌, arith, refl, ap, sym, subst, ◌∙◌}
+use Rattle.std.proofs.Common.{◌≡◌, ℕ, ◌-◌, ◌^◌, ◌<◌, Bool, true, false, List, [], arith, refl, ap, sym, subst, ◌∙◌}
 use Rattle.std.specs.Prelude.{◌&&◌, not, map}
 use Rattle.ix_base.specs.declared.id.WireNo.{WireNo}
 use Rattle.ix_base.specs.declared.segment.Seg.{Seg}
 use Rattle.ix_base.specs.declared.segment.SegHead.{SegHead}
 use Rattle.ix_tcpdef.specs.Connection.{acked_data, is_closed}
-use Rattle.ix_tcpdef.specs.Arrival.{Next, Goes, Stops, ◌>>=◌, job_of, acceptability, reset, synchronize, unacknowledged}
+use Rattle.ix_tcpdef.specs.Arrival.{Next, Goes, Stops, acceptability, reset, synchronize, unacknowledged}
 use Rattle.ix_tcpdef.specs.Acknowledgement.{acknowledgement}
 use Rattle.ix_tcpdef.specs.Body.{text_and_fin}
 use Rattle.ix_tcpdef.specs.Needs.{IsFramed}
@@ -23,7 +23,7 @@ use Rattle.ix_tcpdef.specs.declared.types.HeldHead.{HeldHead}
 use Rattle.ix_tcpdef.specs.declared.types.Tcb.{Tcb}
 use Rattle.ix_tcpin.specs.declared.verdict.Verdict.{Verdict}
 use Rattle.ix_tcb.specs.Stands.{tcb_of, head_of, HasOpened}
-use Rattle.ix_tcpin.specs.Work.{Work, work, Course, Onward, Done, blank, work_of}
+use Rattle.ix_tcpin.specs.Work.{Work, work, Course, Onward, Done, blank}
 use Rattle.ix_tcpin.specs.Checks.{acceptability_part, reset_part, synchronize_part, unacknowledged_part}
 use Rattle.ix_tcpin.specs.Acknowledgement.{acknowledgement_part}
 use Rattle.ix_tcpin.specs.Text.{text_part}

@@ -1,11 +1,11 @@
 -- The first checks of a segment over numbers stand for those of the connection.
-use Rattle.std.proofs.Common.{◌≡◌, ℕ, ◌-◌, Bool, true, false, if◌then◌else◌, List, [], ◌∷◌, ◌++◌, refl, ap, sym, ◌∙◌}
-use Rattle.std.specs.Prelude.{◌&&◌, ◌==◌, not, Some, Option}
+use Rattle.std.proofs.Common.{ℕ, Bool, true, false, if◌then◌else◌, List, [], ◌∷◌, ◌++◌, refl, ap, ◌∙◌}
+use Rattle.std.specs.Prelude.{◌&&◌, ◌==◌, not, Some}
 use Rattle.ix_base.specs.declared.id.WireNo.{WireNo}
 use Rattle.ix_base.specs.declared.segment.Seg.{Seg}
 use Rattle.ix_base.specs.declared.segment.SegHead.{SegHead}
 use Rattle.ix_tcpdef.specs.Numbers.{has_flag, later}
-use Rattle.ix_tcpdef.specs.Connection.{acked_data, seq_of, rcv_wnd, rcv_nxt, is_syn_received, is_time_wait, on, gives, tells, ended}
+use Rattle.ix_tcpdef.specs.Connection.{seq_of, rcv_wnd, rcv_nxt, is_syn_received, is_time_wait, on, gives, ended}
 use Rattle.ix_tcpdef.specs.Frames.{ack_frame}
 use Rattle.ix_tcpdef.specs.Arrival.{Goes, Stops, span, is_acceptable, acceptability, reset, synchronize, unacknowledged}
 use Rattle.ix_tcpdef.specs.declared.types.Cfg.{Cfg}
@@ -21,7 +21,7 @@ use Rattle.ix_tcpin.specs.Heads.{ack_head}
 use Rattle.ix_tcpin.specs.Work as at_work
 use Rattle.ix_tcpin.specs.Work.{Onward, Done, replies, ends}
 use Rattle.ix_tcpin.specs.Checks.{acceptability_part, reset_part, synchronize_part, unacknowledged_part}
-use Rattle.ix_tcpin.proofs.Relation.{at, SameText, Agrees, Says, Leads, IsSame, first-more, last-more, says-answered, says-nothing, says-ended}
+use Rattle.ix_tcpin.proofs.Relation.{at, Agrees, Says, Leads, IsSame, first-more, last-more, says-answered, says-nothing, says-ended}
 
 -- an acknowledgement is sent at once
 pub says-ack : (cfg : Cfg) (w : Connection) (n : WireNo) (seg : Seg) (j : Job) (es : List Event) → Agrees w j es → Says w n seg (replies (at w j es) (ack_head cfg (tcb_of j.connection))) (gives j (ack_frame cfg j.connection))

@@ -1,7 +1,7 @@
 -- What is delivered over numbers stands for what is delivered of the connection.
 use Rattle.std.proofs.Common.{◌≡◌, ℕ, ◌+◌, ◌-◌, ◌%◌, ◌^◌, ◌<◌, ◌≤◌, Bool, true, false, if◌then◌else◌, List, [], ◌∷◌, ◌++◌, length, drop, arith, refl, ap, sym, subst, ◌∙◌, inl, inr, append-nil, append_assoc, length-drop}
 use Rattle.std.specs.Prelude.{nat_lt, nat_le, not, min, map}
-use Rattle.std.proofs.lemmas.Bool.{cases_Bool, cond_both}
+use Rattle.std.proofs.lemmas.Bool.{cases_Bool}
 use Rattle.std.proofs.lemmas.Grind.{common_steps}
 use Rattle.ix_base.specs.declared.id.WireNo.{WireNo}
 use Rattle.ix_tcpdef.specs.Numbers.{number, ahead, is_past}
@@ -17,14 +17,13 @@ use Rattle.ix_tcpdef.specs.declared.types.Octets.{Octets}
 use Rattle.ix_tcpdef.specs.declared.types.Output.{Output}
 use Rattle.ix_tcpdef.specs.declared.types.Output.TheVariants as outputs
 use Rattle.ix_tcpdef.specs.declared.types.Piece.{Piece}
-use Rattle.ix_tcpdef.specs.declared.types.Tcb.{Tcb}
 use Rattle.ix_tcpdef.specs.declared.types.Told.TheVariants as told
 use Rattle.ix_tcb.specs.Stands.{tcb_of, head_of}
 use Rattle.ix_tcb.proofs.NumberLemmas.{counts_ahead, tests_past, goes_on}
 use Rattle.ix_tcpin.specs.declared.verdict.HeldUse.{HeldUse}
 use Rattle.ix_tcpin.specs.declared.verdict.HeldUse.TheVariants as uses
 use Rattle.ix_tcpin.specs.Work.{keep}
-use Rattle.ix_tcpin.specs.Text.{moved, holds, end_of, rest_use, first, Filled, filled_numbers}
+use Rattle.ix_tcpin.specs.Text.{moved, holds, first, Filled, filled_numbers}
 use Rattle.ix_tcpin.specs.Verdict.{used, held_pieces, stays, kept_held, told_pieces}
 use Rattle.ix_tcpin.proofs.Relation.{keep-pieces, keep-held}
 

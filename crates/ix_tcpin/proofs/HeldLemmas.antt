@@ -1,5 +1,5 @@
 -- The loops over held heads.
-use Rattle.std.proofs.Common.{◌≡◌, ℕ, suc, ◌+◌, ◌<◌, ◌≤◌, List, [], ◌∷◌, Bool, true, false, length, take, drop, map, ◌++◌, arith, refl, get_or, ap, sym, ◌∙◌}
+use Rattle.std.proofs.Common.{◌≡◌, ℕ, ◌+◌, ◌<◌, ◌≤◌, List, [], ◌∷◌, Bool, true, false, length, take, drop, map, ◌++◌, arith, refl, get_or, ap, sym, ◌∙◌}
 use Rattle.std.proofs.Math.Seq.{drop-length}
 use Rattle.std.proofs.lemmas.List.{take_more, drop_more, map-append}
 use Rattle.std.specs.Prelude.{nat_lt, slice_get, Some, None}
@@ -9,7 +9,7 @@ use Rattle.ix_tcpdef.specs.declared.types.HeldHead.{HeldHead}
 use Rattle.ix_tcpdef.specs.declared.types.Tcb.{Tcb}
 use Rattle.ix_tcpin.specs.declared.verdict.HeldUse.TheVariants as uses
 use Rattle.ix_tcpin.specs.Work.{keep}
-use Rattle.ix_tcpin.specs.Text.{Filled, filled_numbers, place_among}
+use Rattle.ix_tcpin.specs.Text.{filled_numbers, place_among}
 
 -- ## Keeping
 pub keep_more : (ss : List HeldHead) (i : ℕ) → i < length ss → map keep (take (i + 1) ss) ≡ map keep (take i ss) ++ uses.Keep ∷ []

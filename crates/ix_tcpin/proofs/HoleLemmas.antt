@@ -1,22 +1,21 @@
 -- What is cut out of a body and held over numbers stands for what is cut and held of the connection.
-use Rattle.std.proofs.Common.{◌≡◌, ℕ, suc, ◌+◌, ◌-◌, ◌%◌, ◌^◌, ◌<◌, ◌≤◌, Bool, true, false, if◌then◌else◌, List, [], ◌∷◌, ◌++◌, length, take, drop, arith, refl, ap, sym, subst, ◌∙◌, inl, inr, length-take, length-drop}
-use Rattle.std.specs.Prelude.{nat_lt, nat_le, ◌&&◌, ◌||◌, ◌==◌, not, min, map, insert}
+use Rattle.std.proofs.Common.{◌≡◌, ℕ, suc, ◌+◌, ◌-◌, ◌%◌, ◌^◌, ◌<◌, ◌≤◌, Bool, List, [], ◌∷◌, length, take, drop, arith, refl, ap, sym, ◌∙◌, inl, inr, length-take, length-drop}
+use Rattle.std.specs.Prelude.{nat_lt, nat_le, ◌&&◌, ◌||◌, ◌==◌, min, map, insert}
 use Rattle.std.specs.List.{list_all}
 use Rattle.std.proofs.lemmas.Bool.{cases_Bool}
 use Rattle.std.proofs.lemmas.List.{drop_min, take_min}
 use Rattle.std.proofs.lemmas.Grind.{common_steps}
 use Rattle.ix_base.specs.declared.segment.Seg.{Seg}
 use Rattle.ix_tcpdef.specs.Numbers.{number, ahead, past_of, behind_of}
-use Rattle.ix_tcpdef.specs.Connection.{rcv_wnd, seq_of}
+use Rattle.ix_tcpdef.specs.Connection.{seq_of}
 use Rattle.ix_tcpdef.specs.Body.{octets, is_apart, held_among}
 use Rattle.ix_tcpdef.specs.Needs.{EndsBy, IsFramed}
 use Rattle.ix_tcpdef.specs.Sound.{RisesFrom}
-use Rattle.ix_tcpdef.specs.declared.types.Cfg.{Cfg}
 use Rattle.ix_tcpdef.specs.declared.types.Connection.{Connection}
 use Rattle.ix_tcpdef.specs.declared.types.HeldHead.{HeldHead}
 use Rattle.ix_tcpdef.specs.declared.types.HeldSegment.{HeldSegment}
 use Rattle.ix_tcpdef.specs.declared.types.Octets.{Octets}
-use Rattle.ix_tcb.specs.Stands.{tcb_of, head_of}
+use Rattle.ix_tcb.specs.Stands.{head_of}
 use Rattle.ix_tcb.proofs.NumberLemmas.{counts_ahead, goes_on}
 use Rattle.ix_tcpin.specs.declared.text.Octets.{Octets as Places}
 use Rattle.ix_tcpin.specs.Text.{octets_in, is_beside, place_among, head_held}

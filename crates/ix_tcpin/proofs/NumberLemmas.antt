@@ -1,20 +1,19 @@
 -- The numbers that an acknowledgement changes stand for the positions that it changes.
-use Rattle.std.proofs.Common.{◌≡◌, ◌≢◌, ℕ, ◌+◌, ◌-◌, ◌*◌, ◌/◌, ◌^◌, ◌<◌, ◌≤◌, Bool, true, false, if◌then◌else◌, length, arith, refl, ap, sym, ◌∙◌, inl, inr}
-use Rattle.std.specs.Prelude.{nat_lt, ◌&&◌, ◌||◌, ◌==◌, not, min, max, Option, Some, None}
+use Rattle.std.proofs.Common.{◌≡◌, ◌≢◌, ℕ, ◌+◌, ◌-◌, ◌*◌, ◌^◌, ◌<◌, ◌≤◌, Bool, true, false, if◌then◌else◌, length, arith, refl, ap, sym, ◌∙◌, inl, inr}
+use Rattle.std.specs.Prelude.{nat_lt, ◌&&◌, ◌==◌, not, min, Some, None}
 use Rattle.std.proofs.lemmas.Bool.{cases_Bool, cond_both}
 use Rattle.std.proofs.lemmas.Grind.{common_steps}
 use Rattle.ix_base.specs.declared.segment.SegHead.{SegHead}
-use Rattle.ix_tcpdef.specs.Numbers.{number, ahead, is_past, is_at_or_past, has_flag, later}
-use Rattle.ix_tcpdef.specs.Connection.{snd_una, snd_nxt, acked_data, queued, grown, loss_threshold, is_time_wait}
+use Rattle.ix_tcpdef.specs.Numbers.{number, ahead, is_past, is_at_or_past, later}
+use Rattle.ix_tcpdef.specs.Connection.{snd_una, snd_nxt, acked_data, queued, grown, loss_threshold}
 use Rattle.ix_tcpdef.specs.Acknowledgement.{is_duplicate, duplicated, opened_window, advanced, is_newer, unpersisted, windowed, acked}
-use Rattle.ix_tcpdef.proofs.NumberLemmas.{advance_least, advance_most}
+use Rattle.ix_tcpdef.proofs.NumberLemmas.{advance_most}
 use Rattle.ix_tcpdef.specs.declared.types.Cfg.{Cfg}
 use Rattle.ix_tcpdef.specs.declared.types.Connection.{Connection}
 use Rattle.ix_tcpdef.specs.declared.types.Tcb.{Tcb}
-use Rattle.ix_tcpdef.specs.declared.types.TheConstants.{FIN}
 use Rattle.ix_tcb.specs.Stands.{tcb_of}
 use Rattle.ix_tcb.proofs.NumberLemmas.{counts_ahead, tells_apart, finds_position}
-use Rattle.ix_tcpin.specs.Acknowledgement.{is_repeated, threshold, duplicated_numbers, widened, acked_bytes, advanced_numbers, is_later, unpersisted_numbers, windowed_numbers, acked_numbers}
+use Rattle.ix_tcpin.specs.Acknowledgement.{duplicated_numbers, acked_bytes, advanced_numbers, unpersisted_numbers, windowed_numbers, acked_numbers}
 
 -- what is in flight fits the numbers
 pub record IsFlying (w : Connection) : Type 0 where

@@ -1,6 +1,6 @@
 -- How a connection opens over numbers stands for how it opens.
-use Rattle.std.proofs.Common.{◌≡◌, ℕ, ◌-◌, ◌≤◌, Bool, true, false, if◌then◌else◌, List, [], ◌∷◌, ◌++◌, length, arith, refl, ap, sym, subst, ◌∙◌, append-nil}
-use Rattle.std.specs.Prelude.{◌&&◌, ◌==◌, not, map, min, Option, Some, None}
+use Rattle.std.proofs.Common.{◌≡◌, ℕ, ◌-◌, ◌≤◌, Bool, true, false, if◌then◌else◌, List, [], ◌∷◌, length, arith, refl, ap, sym, subst, ◌∙◌}
+use Rattle.std.specs.Prelude.{◌&&◌, ◌==◌, not, map, min, Some}
 use Rattle.ix_base.specs.declared.id.WireNo.{WireNo}
 use Rattle.ix_base.specs.declared.segment.Seg.{Seg}
 use Rattle.ix_base.specs.declared.segment.SegHead.{SegHead}
@@ -13,9 +13,7 @@ use Rattle.ix_tcpdef.specs.declared.types.Cfg.{Cfg}
 use Rattle.ix_tcpdef.specs.declared.types.State.TheVariants as st
 use Rattle.ix_tcpdef.specs.declared.types.Connection.{Connection}
 use Rattle.ix_tcpdef.specs.declared.types.HeldHead.{HeldHead}
-use Rattle.ix_tcpdef.specs.declared.types.HeldSegment.{HeldSegment}
 use Rattle.ix_tcpdef.specs.declared.types.Job.{Job}
-use Rattle.ix_tcpdef.specs.declared.types.Output.{Output}
 use Rattle.ix_tcpdef.specs.declared.types.Output.TheVariants as outputs
 use Rattle.ix_tcpdef.specs.declared.types.Told.TheVariants as told
 use Rattle.ix_tcpdef.specs.declared.types.TheConstants.{ACK, RST, SYN}

@@ -1,8 +1,8 @@
 -- A verdict lies within the segment, what is held and the send queue, whatever the numbers stand for.
-use Rattle.std.proofs.Common.{◌≡◌, ℕ, ◌+◌, ◌-◌, ◌<◌, ◌≤◌, Bool, true, false, if◌then◌else◌, List, [], ◌∷◌, ◌++◌, length, arith, refl, ap, sym, subst, ◌∙◌, inl, inr}
-use Rattle.std.specs.Prelude.{nat_lt, nat_le, ◌&&◌, ◌||◌, ◌==◌, not, min, map, Some, None}
+use Rattle.std.proofs.Common.{◌≡◌, ℕ, ◌+◌, ◌-◌, ◌<◌, ◌≤◌, Bool, false, List, [], ◌∷◌, ◌++◌, length, arith, refl, ap, sym, subst, ◌∙◌}
+use Rattle.std.specs.Prelude.{nat_lt, nat_le, ◌&&◌, ◌||◌, ◌==◌, not, min, map, Some}
 use Rattle.std.specs.List.{list_all}
-use Rattle.std.proofs.lemmas.Bool.{cases_Bool, cond_both}
+use Rattle.std.proofs.lemmas.Bool.{cond_both}
 use Rattle.std.proofs.lemmas.Grind.{common_steps}
 use Rattle.ix_base.specs.declared.segment.SegHead.{SegHead}
 use Rattle.ix_tcpdef.specs.Numbers.{number, ahead, is_past, is_at_or_past, past_of, behind_of, has_flag, later}
@@ -23,12 +23,11 @@ use Rattle.ix_tcpin.specs.declared.verdict.Event.{Event}
 use Rattle.ix_tcpin.specs.declared.verdict.HeldUse.{HeldUse}
 use Rattle.ix_tcpin.specs.declared.verdict.HeldUse.TheVariants as uses
 use Rattle.ix_tcpin.specs.declared.verdict.Take.TheVariants as takes
-use Rattle.ix_tcpin.specs.declared.verdict.Verdict.{Verdict}
 use Rattle.ix_tcpin.specs.Heads.{window, ack_head}
 use Rattle.ix_tcpin.specs.Work.{Work, work, on, Course, Onward, Done, along, work_of, keep, dropped, blank, replies, announces, tells, let_go, ends}
 use Rattle.ix_tcpin.specs.Checks.{distance, acceptability_part, reset_part, synchronize_part, unacknowledged_part}
 use Rattle.ix_tcpin.specs.Acknowledgement.{established_numbers, establishing_part, too_far_part, is_repeated, duplicated_numbers, acked_bytes, advanced_numbers, is_later, windowed_numbers, acked_numbers, room_left, sent_part, fin_acked_part_in, fin_acked_part, counts, synchronized_part, acknowledgement_part}
-use Rattle.ix_tcpin.specs.Text.{octets_in, moved, holds, end_of, rest_use, first, Filled, filled_numbers, taken_body, fills, is_beside, waiting_part, Texted, texted, received_part, stands_next, body_part, behind_fin, fin_part_in, fin_part, finished_part, text_part}
+use Rattle.ix_tcpin.specs.Text.{octets_in, moved, holds, end_of, Filled, filled_numbers, is_beside, waiting_part, Texted, received_part, body_part, behind_fin, fin_part_in, fin_part, finished_part, text_part}
 use Rattle.ix_tcpin.specs.Opening.{opening_part, syn_sent_part}
 use Rattle.ix_tcpin.specs.Arrived.{checked_part, arrived_part_in, arrived_part}
 use Rattle.ix_tcpin.specs.Verdict.{IsWithin, IsUseOf, AreUsesOf, is_part, AreNoParts, LiesWithin}

@@ -1,19 +1,18 @@
 -- Arrival over numbers beside arrival over positions.
-use Rattle.std.proofs.Common.{◌≡◌, ℕ, ◌+◌, ◌-◌, Bool, true, false, if◌then◌else◌, List, [], ◌∷◌, ◌++◌, drop, refl, ap, sym, subst, ◌∙◌, append-nil, inl, inr}
+use Rattle.std.proofs.Common.{◌≡◌, ℕ, ◌+◌, ◌-◌, Bool, true, false, List, [], ◌∷◌, ◌++◌, drop, refl, ap, sym, subst, ◌∙◌, append-nil, inl, inr}
 use Rattle.std.proofs.lemmas.Bool.{cases_Bool}
-use Rattle.std.specs.Prelude.{map, Option, Some, None, not, ◌&&◌}
+use Rattle.std.specs.Prelude.{map, Option, None, not, ◌&&◌}
 use Rattle.ix_base.specs.declared.id.WireNo.{WireNo}
 use Rattle.ix_base.specs.declared.segment.Seg.{Seg}
 use Rattle.ix_base.specs.declared.segment.SegHead.{SegHead}
 use Rattle.ix_tcpdef.specs.Arrival.{Next, Goes, Stops, ◌>>=◌, job_of}
-use Rattle.ix_tcpdef.specs.Connection.{acked_data, is_closed, on, gives, ended}
+use Rattle.ix_tcpdef.specs.Connection.{acked_data, is_closed, ended}
 use Rattle.ix_tcpdef.specs.declared.types.Connection.{Connection}
 use Rattle.ix_tcpdef.specs.declared.types.HeldSegment.{HeldSegment}
 use Rattle.ix_tcpdef.specs.declared.types.Job.{Job}
 use Rattle.ix_tcpdef.specs.declared.types.Output.{Output}
 use Rattle.ix_tcpdef.specs.declared.types.Output.TheVariants as outputs
 use Rattle.ix_tcpdef.specs.declared.types.Piece.{Piece}
-use Rattle.ix_tcpdef.specs.declared.types.Told.{Told}
 use Rattle.ix_tcb.specs.Stands.{tcb_of, head_of}
 use Rattle.ix_tcpin.specs.declared.verdict.Event.{Event}
 use Rattle.ix_tcpin.specs.declared.verdict.HeldUse.{HeldUse}
@@ -21,7 +20,7 @@ use Rattle.ix_tcpin.specs.declared.verdict.HeldUse.TheVariants as uses
 use Rattle.ix_tcpin.specs.declared.verdict.Take.TheVariants as takes
 use Rattle.ix_tcpin.specs.declared.verdict.Verdict.{Verdict}
 use Rattle.ix_tcpin.specs.Work.{Work, work, Course, Onward, Done, along, work_of, keep, dropped, let_go, closed}
-use Rattle.ix_tcpin.specs.Verdict.{held_pieces, kept_held, pieces_of, held_of, is_end, first_told, last_told, told_pieces, frame_of, reply_of, outputs_of, has_ended}
+use Rattle.ix_tcpin.specs.Verdict.{held_pieces, kept_held, pieces_of, held_of, is_end, first_told, last_told, reply_of, outputs_of, has_ended}
 
 -- ## While the body is not looked at
 -- the verdict so far: nothing is made of the body, and what is held stays so

@@ -1,17 +1,16 @@
 -- What is taken of the body over numbers is what the step takes of it.
-use Rattle.std.proofs.Common.{◌≡◌, ℕ, ◌+◌, ◌-◌, ◌^◌, ◌<◌, ◌≤◌, Bool, true, false, if◌then◌else◌, List, [], ◌∷◌, length, arith, refl, ap, sym, subst, ◌∙◌, inl, inr}
-use Rattle.std.specs.Prelude.{nat_lt, ◌&&◌, ◌||◌, ◌==◌, not, map, Some, None}
+use Rattle.std.proofs.Common.{◌≡◌, ℕ, ◌+◌, ◌-◌, ◌^◌, ◌<◌, ◌≤◌, Bool, true, false, if◌then◌else◌, List, [], length, arith, refl, ap, sym, subst, ◌∙◌, inl, inr}
+use Rattle.std.specs.Prelude.{nat_lt, ◌&&◌, ◌||◌, ◌==◌, not, map}
 use Rattle.std.specs.List.{list_all}
 use Rattle.std.proofs.lemmas.Bool.{cases_Bool, cond_both}
-use Rattle.std.proofs.lemmas.Grind.{common_steps}
 use Rattle.ix_base.specs.declared.id.WireNo.{WireNo}
 use Rattle.ix_base.specs.declared.segment.Seg.{Seg}
 use Rattle.ix_base.specs.declared.segment.SegHead.{SegHead}
-use Rattle.ix_tcpdef.specs.Numbers.{number, is_past, past_of, has_flag, later}
+use Rattle.ix_tcpdef.specs.Numbers.{number, is_past, past_of, has_flag}
 use Rattle.ix_tcpdef.specs.Connection.{rcv_wnd, seq_of, is_closed, is_syn_received, is_time_wait}
 use Rattle.ix_tcpdef.specs.Arrival.{Next, Goes, Stops, ◌>>=◌, span, is_acceptable, acceptability, reset, synchronize, unacknowledged}
 use Rattle.ix_tcpdef.specs.Acknowledgement.{acknowledgement}
-use Rattle.ix_tcpdef.specs.Body.{octets, is_apart, takes_body}
+use Rattle.ix_tcpdef.specs.Body.{octets, takes_body}
 use Rattle.ix_tcpdef.specs.Needs.{IsFramed}
 use Rattle.ix_tcpdef.specs.Opening.{opens}
 use Rattle.ix_tcpdef.specs.Sound.{IsKept}
@@ -41,9 +40,9 @@ use Rattle.ix_tcpin.specs.Text.{octets_in, waiting_part, Texted, received_part, 
 use Rattle.ix_tcpin.specs.Opening.{opening_part, syn_sent_part}
 use Rattle.ix_tcpin.specs.Arrived.{checked_part, arrived_part_in, arrived_part}
 use Rattle.ix_tcpin.specs.Verdict.{Meets, reached, is_held, octets_taken, body_taken, taken_after, taken_in, take_of}
-use Rattle.ix_tcpin.proofs.Relation.{so_far, at, Agrees, Says, Leads, IsSame}
+use Rattle.ix_tcpin.proofs.Relation.{at, Agrees, Says, Leads, IsSame}
 use Rattle.ix_tcpin.proofs.CheckLemmas.{leads-acceptability, leads-reset, leads-synchronize, leads-unacknowledged}
-use Rattle.ix_tcpin.proofs.AckLemmas.{Stays, leads-acknowledgement}
+use Rattle.ix_tcpin.proofs.AckLemmas.{leads-acknowledgement}
 use Rattle.ix_tcpin.proofs.HoleLemmas.{IsCut, octets-cut}
 use Rattle.ix_tcpin.proofs.TextLemmas.{taken_place, empty_test, waits-as}
 use Rattle.ix_tcpin.proofs.OpeningLemmas.{start, begins}

@@ -1,19 +1,19 @@
 -- The body and the FIN of a segment over numbers stand for those of the connection.
-use Rattle.std.proofs.Common.{◌≡◌, ℕ, ◌+◌, ◌-◌, ◌%◌, ◌^◌, ◌<◌, ◌≤◌, Bool, true, false, if◌then◌else◌, List, [], ◌∷◌, ◌++◌, length, arith, refl, ap, sym, subst, ◌∙◌, inl, inr, append-nil, append_assoc}
-use Rattle.std.specs.Prelude.{nat_lt, nat_le, ◌&&◌, ◌==◌, not, map, insert, Option, Some, None, pos, ◌+ℤ◌}
+use Rattle.std.proofs.Common.{◌≡◌, ℕ, ◌+◌, ◌-◌, ◌^◌, ◌<◌, ◌≤◌, Bool, true, false, if◌then◌else◌, List, [], ◌∷◌, ◌++◌, length, arith, refl, ap, sym, subst, ◌∙◌, inl, inr, append-nil, append_assoc}
+use Rattle.std.specs.Prelude.{nat_lt, ◌&&◌, ◌==◌, not, map, insert, Option, Some, None, pos, ◌+ℤ◌}
 use Rattle.std.specs.List.{list_all}
-use Rattle.std.proofs.lemmas.Bool.{cases_Bool, cond_both}
+use Rattle.std.proofs.lemmas.Bool.{cases_Bool}
 use Rattle.std.proofs.lemmas.List.{length-map}
 use Rattle.std.proofs.lemmas.Grind.{common_steps}
 use Rattle.ix_base.specs.declared.id.WireNo.{WireNo}
 use Rattle.ix_base.specs.declared.segment.Seg.{Seg}
 use Rattle.ix_base.specs.declared.segment.SegHead.{SegHead}
 use Rattle.ix_tcpdef.specs.Numbers.{number, offset, is_past, past_of, is_next, has_flag, later}
-use Rattle.ix_tcpdef.specs.Connection.{acked_data, rcv_nxt, rcv_wnd, seq_of, is_closed, on, gives, tells}
+use Rattle.ix_tcpdef.specs.Connection.{acked_data, rcv_nxt, rcv_wnd, seq_of, is_closed, on, gives}
 use Rattle.ix_tcpdef.specs.Frames.{ack_frame}
 use Rattle.ix_tcpdef.specs.Body.{octets, delivered, filled, is_apart, held_among, waiting, received, takes_body, ends_next, body, past_fin, fin_taken_in, fin_taken, finished, text_and_fin}
-use Rattle.ix_tcpdef.specs.Needs.{EndsBy, IsFramed}
-use Rattle.ix_tcpdef.specs.Sound.{IsKept, RisesFrom}
+use Rattle.ix_tcpdef.specs.Needs.{IsFramed}
+use Rattle.ix_tcpdef.specs.Sound.{IsKept}
 use Rattle.ix_tcpdef.specs.declared.types.Cfg.{Cfg}
 use Rattle.ix_tcpdef.specs.declared.types.State.{State}
 use Rattle.ix_tcpdef.specs.declared.types.State.TheVariants as st
@@ -33,15 +33,13 @@ use Rattle.ix_tcb.proofs.NumberLemmas.{goes_on}
 use Rattle.ix_tcpin.specs.declared.text.Octets.{Octets as Places}
 use Rattle.ix_tcpin.specs.declared.verdict.Event.{Event}
 use Rattle.ix_tcpin.specs.declared.verdict.HeldUse.{HeldUse}
-use Rattle.ix_tcpin.specs.declared.verdict.Take.{Take}
 use Rattle.ix_tcpin.specs.declared.verdict.Take.TheVariants as takes
 use Rattle.ix_tcpin.specs.declared.verdict.Verdict.{Verdict}
 use Rattle.ix_tcpin.specs.Heads.{ack_head}
-use Rattle.ix_tcpin.specs.Work as at_work
-use Rattle.ix_tcpin.specs.Work.{Work, work, keep, dropped, let_go, replies, announces}
+use Rattle.ix_tcpin.specs.Work.{work, keep, let_go, replies, announces}
 use Rattle.ix_tcpin.specs.Text.{octets_in, moved, holds, is_beside, place_among, head_held, waiting_part, taken_body, fills, Filled, filled_numbers, Texted, texted, received_part, stands_next, body_part, behind_fin, fin_part_in, fin_part, finished_part, text_part}
-use Rattle.ix_tcpin.specs.Verdict.{body_piece, body_pieces, held_pieces, kept_held, body_held, held_with, pieces_of, held_of, is_end, first_told, last_told, told_pieces, frame_of, reply_of, outputs_of, has_ended}
-use Rattle.ix_tcpin.proofs.Relation.{so_far, at, SameText, Agrees, Says, keep-pieces, keep-held, dropped-pieces, dropped-held, first-more, last-more, lives, says-answered, says-nothing}
+use Rattle.ix_tcpin.specs.Verdict.{body_piece, body_pieces, held_pieces, kept_held, body_held, held_with, pieces_of, is_end, first_told, last_told, told_pieces, frame_of, reply_of}
+use Rattle.ix_tcpin.proofs.Relation.{so_far, at, SameText, Agrees, Says, keep-pieces, keep-held, dropped-pieces, dropped-held, lives, says-nothing}
 use Rattle.ix_tcpin.proofs.CheckLemmas.{says-ack}
 use Rattle.ix_tcpin.proofs.FillLemmas.{piece_of, Delivers, delivers, IsNear, Fills, told-append, fill-stands}
 use Rattle.ix_tcpin.proofs.FillLemmas as fill

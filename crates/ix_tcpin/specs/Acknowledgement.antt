@@ -10,7 +10,7 @@ use Rattle.ix_tcpdef.specs.declared.types.Tcb.{Tcb}
 use Rattle.ix_tcpdef.specs.declared.types.Told.TheVariants as told
 use Rattle.ix_tcpdef.specs.declared.types.TheConstants.{FIN}
 use Rattle.ix_tcpin.specs.Heads.{ack_head, reset_head}
-use Rattle.ix_tcpin.specs.Work.{Work, Course, Onward, Done, along, work, on, replies, announces, tells, ends}
+use Rattle.ix_tcpin.specs.Work.{Work, Course, Onward, Done, along, on, replies, announces, tells, ends}
 
 -- ## SYN-RECEIVED
 abbrev pub established_numbers : SegHead → Tcb → Tcb

@@ -5,7 +5,7 @@ use Rattle.ix_base.specs.declared.id.WireNo.{WireNo}
 use Rattle.ix_base.specs.declared.segment.Seg.{Seg}
 use Rattle.ix_base.specs.declared.segment.SegHead.{SegHead}
 use Rattle.ix_tcpdef.specs.Numbers.{has_flag, past_of}
-use Rattle.ix_tcpdef.specs.Connection.{acked_data, is_closed, rcv_wnd, seq_of}
+use Rattle.ix_tcpdef.specs.Connection.{is_closed, rcv_wnd, seq_of}
 use Rattle.ix_tcpdef.specs.Arrival.{Next, Goes, Stops, ◌>>=◌, acceptability, reset, synchronize, unacknowledged}
 use Rattle.ix_tcpdef.specs.Acknowledgement.{acknowledgement}
 use Rattle.ix_tcpdef.specs.Body.{octets, is_apart, held_among, takes_body}

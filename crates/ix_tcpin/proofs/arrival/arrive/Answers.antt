@@ -1,8 +1,5 @@
 use Rattle.std.proofs.Common.{◌^◌, ◌<◌, rules, ap, sym, subst, ◌∙◌}
-use Rattle.ix_tcpdef.specs.Step.{step}
-use Rattle.ix_tcpdef.specs.declared.types.Input.TheVariants as inputs
 use Rattle.ix_tcpin.specs.Work.{Work, work}
-use Rattle.ix_tcpin.proofs.Relation.{Says}
 use Rattle.ix_tcpin.specs.declared.verdict.Verdict.{Verdict}
 use Rattle.ix_tcpin.specs.Work.{blank}
 use Rattle.ix_tcpin.specs.Verdict.{LiesWithin}
