@@ -10,3 +10,4 @@ pub mod OpeningLemmas
 pub mod ArrivalLemmas
 pub mod RangeLemmas
 pub mod TakeLemmas
+pub mod QueueLemmas

@@ -1,5 +1,5 @@
 // Arrival of a segment.
-ghost use Rattle.std.specs.Prelude.{◌≡◌, ◌≤◌, ◌<◌, ◌-◌, ◌++◌, []};
+ghost use Rattle.std.specs.Prelude.{◌≡◌, ◌≤◌, ◌<◌, ◌-◌, ◌++◌, [], drop};
 ghost use Rattle.ix_base.specs.declared.id.WireNo.{WireNo as AWireNo};
 ghost use Rattle.ix_base.specs.declared.segment.Seg.{Seg as ASeg};
 ghost use Rattle.ix_tcpdef.specs.Connection.{acked_data};
@@ -7,7 +7,7 @@ ghost use Rattle.ix_tcpdef.specs.Sound.{FitsPeer};
 ghost use Rattle.ix_tcpdef.specs.Step.{step};
 ghost use Rattle.ix_tcpdef.specs.declared.types.Connection.{Connection};
 ghost use Rattle.ix_tcpdef.specs.declared.types.Input.TheVariants as inputs;
-ghost use Rattle.ix_tcb.specs.Stands.{tcb_of};
+ghost use Rattle.ix_tcb.specs.Stands.{tcb_of, send_queue};
 ghost use Rattle.ix_tcpin.specs.Work.{work, work_of};
 ghost use Rattle.ix_tcpin.specs.Verdict.{
   Meets,
@@ -79,6 +79,7 @@ pub fn arrive(cfg: &Cfg, tcb: &mut Tcb, head: &SegHead, now: u64) -> Verdict
     ensures held { (w : Connection) (n : AWireNo) (seg : ASeg) → Meets cfg.now tcb.old head.now w seg → (step cfg.now w (inputs.Segment n seg) now).connection.held ≡ held_of w n seg result }
     ensures take { (w : Connection) (n : AWireNo) (seg : ASeg) → Meets cfg.now tcb.old head.now w seg → result.take ≡ take_of cfg.now w seg now }
     ensures acked { (w : Connection) (n : AWireNo) (seg : ASeg) → Meets cfg.now tcb.old head.now w seg → result.acked ≡ acked_data (step cfg.now w (inputs.Segment n seg) now).connection - acked_data w }
+    ensures queue { (w : Connection) (n : AWireNo) (seg : ASeg) → Meets cfg.now tcb.old head.now w seg → send_queue (step cfg.now w (inputs.Segment n seg) now).connection ≡ drop result.acked (send_queue w) }
     ensures ended { (w : Connection) (n : AWireNo) (seg : ASeg) → Meets cfg.now tcb.old head.now w seg → result.ended ≡ has_ended w (step cfg.now w (inputs.Segment n seg) now).connection }
     ensures ranges { LiesWithin head.now.len tcb.old.held.items tcb.old.queued result }
 {
