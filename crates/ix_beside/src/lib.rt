@@ -3,8 +3,11 @@
 #![tactic(auto)]
 
 mod draw;
+mod given;
+mod meeting;
 mod twins;
 
+pub use meeting::{ALL_STATES, Met, side_by_side};
 pub use twins::{Peer, first_apart};
 
 #[cfg(test)]

@@ -1,6 +1,6 @@
 ghost use Rattle.ix_tcpdef.specs.Sound.{IsInRange};
 
-use crate::{Peer, first_apart};
+use crate::{ALL_STATES, Peer, first_apart, side_by_side};
 use ix_base::NoMemory;
 use ix_tcpdef::Cfg;
 use std::alloc::Global;
@@ -67,4 +67,36 @@ fn large_segments(rt: HostRuntime) -> Result<(), NoMemory> {
         mss: 1460,
     };
     all_seeds(&rt, rt.alloc(), &usual(), peer)
+}
+
+/// Ninety-six moments from each of sixteen seeds, of connections that the peer opens and of such that are opened towards it. Answers the
+/// states that they were in.
+fn all_meetings(rt: &impl Abort, alloc: Global, cfg: &Cfg, peer: Peer) -> Result<u16, NoMemory>
+    requires { IsInRange cfg.now }
+{
+    let mut seen = 0;
+    for seed in 0..16 {
+        let passive = side_by_side(alloc, cfg, peer, seed, 96, false)?;
+        assert_eq!(rt; passive.apart, None, "passive, seed {seed}");
+        let active = side_by_side(alloc, cfg, peer, seed, 96, true)?;
+        assert_eq!(rt; active.apart, None, "active, seed {seed}");
+        seen = seen | passive.seen | active.seen;
+    }
+    Ok(seen)
+}
+
+#[test]
+fn arriving_segments(rt: HostRuntime) -> Result<(), NoMemory> {
+    let near = Peer {
+        window: 1000,
+        mss: 64,
+    };
+    let far = Peer {
+        window: 65_535,
+        mss: 1460,
+    };
+    let small = all_meetings(&rt, rt.alloc(), &small(), near)?;
+    let usual = all_meetings(&rt, rt.alloc(), &usual(), far)?;
+    assert_eq!(rt; small | usual, ALL_STATES);
+    Ok(())
 }

@@ -1,7 +1,7 @@
 // A connection that talks, and its numbers.
 ghost use Rattle.std.specs.Prelude.{◌≡◌, ◌≤◌, true, IfOk, OnOk};
 ghost use Rattle.ix_tcpdef.specs.Flush.{is_due as due_test};
-ghost use Rattle.ix_tcpdef.specs.Sound.{FitsPeer, IsInRange, IsStanding, IsWritten};
+ghost use Rattle.ix_tcpdef.specs.Sound.{FitsPeer, IsInRange, IsStanding, IsWritten, has_windows as windows_test};
 
 use crate::draw::Draw;
 use ix_base::{Bytes, Flow, NoMemory, Ret, Seg, SegHead, WireNo};
@@ -12,20 +12,20 @@ use ix_tcpdef::{
 use ix_tcpout::{Outs, expire, flush};
 use std::alloc::Global;
 
-const FLOW: Flow = Flow {
+pub(crate) const FLOW: Flow = Flow {
     remote: 0x0a00_0001,
     local: 0x0a00_0002,
     remote_port: 4000,
     local_port: 80,
 };
 
-const MAC: [u8; 6] = [2, 0, 0, 0, 0, 1];
+pub(crate) const MAC: [u8; 6] = [2, 0, 0, 0, 0, 1];
 
-const ISS: u32 = 0xffff_fe00;
+pub(crate) const ISS: u32 = 0xffff_fe00;
 
 const IRS: u32 = 0x8000_0000;
 
-const TEXT: [u8; 1024] = [b'x'; 1024];
+pub(crate) const TEXT: [u8; 1024] = [b'x'; 1024];
 
 /// The peer's window and its maximum segment size.
 #[derive(Clone, Copy)]
@@ -34,11 +34,12 @@ pub struct Peer {
     pub mss: u16,
 }
 
+/// A connection, its numbers, and the clock.
 #[derive(Drop)]
-struct Twins {
-    world: World1,
-    tcb: Tcb,
-    now: u64,
+pub(crate) struct Twins {
+    pub(crate) world: World1,
+    pub(crate) tcb: Tcb,
+    pub(crate) now: u64,
 }
 
 /// A segment of the peer without a body.
@@ -87,10 +88,20 @@ fn numbers(cfg: &Cfg, peer: Peer) -> Tcb {
     tcb
 }
 
-fn fits(tcb: &Tcb) -> bool
+/// Whether both windows of congestion control are known.
+fn has_windows(state: State) -> bool
+    ensures { result ≡ windows_test state }
+{
+    !matches!(state, State::Listen | State::SynSent | State::Closed)
+}
+
+pub(crate) fn fits(tcb: &Tcb) -> bool
     ensures { result ≡ true → FitsPeer tcb.now.state tcb.now.mss tcb.now.wnd tcb.now.cwnd tcb.now.ssthresh }
 {
-    tcb.mss >= 64 && tcb.mss <= 1460 && tcb.wnd <= 65535 && tcb.cwnd > 0 && tcb.ssthresh > 0
+    if tcb.mss < 64 || tcb.mss > 1460 || tcb.wnd > 65535 {
+        return false;
+    }
+    !has_windows(tcb.state) || tcb.cwnd > 0 && tcb.ssthresh > 0
 }
 
 fn is_due(deadline: Option<u64>, now: u64) -> bool
@@ -142,8 +153,24 @@ impl Twins {
         }
     }
 
+    /// A connection before its opening.
+    pub(crate) fn unopened(alloc: Global, cfg: &Cfg) -> Twins
+        ensures { IsStanding cfg.now result.world }
+    {
+        Twins {
+            world: World1::listen(alloc, FLOW, MAC, ISS),
+            tcb: unopened(FLOW, MAC, ISS),
+            now: 0,
+        }
+    }
+
     /// Lets the connection alone take an input.
-    fn take(&mut self, alloc: Global, cfg: &Cfg, input: &Input) -> Result<Outputs, NoMemory>
+    pub(crate) fn take(
+        &mut self,
+        alloc: Global,
+        cfg: &Cfg,
+        input: &Input,
+    ) -> Result<Outputs, NoMemory>
         requires cfg { IsInRange cfg.now }
         requires standing { IsStanding cfg.now self.old.world }
         requires written { IsWritten input.now }
@@ -168,18 +195,18 @@ impl Twins {
     }
 
     /// Whether the numbers are those of the connection.
-    fn agree(&self) -> bool {
+    pub(crate) fn agree(&self) -> bool {
         let left = self.world.left();
         left.state == self.tcb.state
             && number(ISS, left.una) == self.tcb.una
             && number(ISS, left.nxt) == self.tcb.nxt
-            && number(IRS, left.rcv) == self.tcb.rcv_nxt
+            && number(self.tcb.irs, left.rcv) == self.tcb.rcv_nxt
             && left.cwnd == self.tcb.cwnd
             && left.ssthresh == self.tcb.ssthresh
             && self.world.deadline() == self.tcb.deadline
     }
 
-    fn flush(&mut self, alloc: Global, cfg: &Cfg) -> Result<bool, NoMemory>
+    pub(crate) fn flush(&mut self, alloc: Global, cfg: &Cfg) -> Result<bool, NoMemory>
         requires cfg { IsInRange cfg.now }
         requires standing { IsStanding cfg.now self.old.world }
         ensures { OnOk result (IsStanding cfg.now self.new.world) }
@@ -193,7 +220,7 @@ impl Twins {
     }
 
     /// The time goes on to the deadline, which expires.
-    fn expire(&mut self, alloc: Global, cfg: &Cfg) -> Result<bool, NoMemory>
+    pub(crate) fn expire(&mut self, alloc: Global, cfg: &Cfg) -> Result<bool, NoMemory>
         requires cfg { IsInRange cfg.now }
         requires standing { IsStanding cfg.now self.old.world }
         ensures { OnOk result (IsStanding cfg.now self.new.world) }
@@ -210,7 +237,7 @@ impl Twins {
         Ok(are_same(&outputs, &outs) && self.agree())
     }
 
-    fn send(&mut self, alloc: Global, cfg: &Cfg, n: usize) -> Result<bool, NoMemory>
+    pub(crate) fn send(&mut self, alloc: Global, cfg: &Cfg, n: usize) -> Result<bool, NoMemory>
         requires cfg { IsInRange cfg.now }
         requires standing { IsStanding cfg.now self.old.world }
         ensures { OnOk result (IsStanding cfg.now self.new.world) }

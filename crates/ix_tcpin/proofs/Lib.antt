@@ -1,0 +1,13 @@
+pub mod HeldLemmas
+pub mod Relation
+pub mod CheckLemmas
+pub mod NumberLemmas
+pub mod AckLemmas
+pub mod FillLemmas
+pub mod HoleLemmas
+pub mod TextLemmas
+pub mod OpeningLemmas
+pub mod ArrivalLemmas
+pub mod RangeLemmas
+pub mod TakeLemmas
+pub mod QueueLemmas
