@@ -2,15 +2,20 @@
 #![tactic(auto)]
 
 mod clock;
+mod connects;
+mod groups;
 mod order;
 mod own;
 mod run;
+mod setting;
 #[cfg(test)]
 mod tests;
 mod wire;
 
 pub use clock::clocks_of;
+pub use groups::group_records;
 pub use order::{Phase, Reply, ReplyKey, in_order, sent_at};
 pub use own::{initial_numbers, is_own, local_of};
 pub use run::run_given;
+pub use setting::env_of;
 pub use wire::{GROUPS, Given, MAX_FRAME, entries_by_group, group_of_frame};
