@@ -2,5 +2,8 @@ pub mod Loops
 pub mod Lists
 pub mod Ticks
 pub mod Cycles
+pub mod Placed
+pub mod Short
 pub mod ConnectLaws
 pub mod GroupLaws
+pub mod Keys

@@ -5,3 +5,5 @@ pub mod Order
 pub mod Setting
 pub mod Connects
 pub mod Groups
+pub mod Placed
+pub mod Replies

@@ -1,6 +1,6 @@
 -- The order of the replies of a play, and their ticks.
-use Rattle.std.specs.Prelude.{ℕ, nat_lt, if◌then◌else◌, List, length, slice_index, Option, Some, None}
-use Rattle.std.specs.Ordering.{nat_cmp, ordering_then}
+use Rattle.std.specs.Prelude.{ℕ, Bool, count_by, nat_lt, if◌then◌else◌, List, length, slice_index, Option, Some, None}
+use Rattle.std.specs.Ordering.{is_lt, nat_cmp, ordering_then}
 use Rattle.std.specs.Option.{option_cmp}
 use Rattle.std.specs.declared.cmp.Ordering.{Ordering}
 use Rattle.ix_base.specs.declared.id.WireNo.{WireNo}
@@ -23,17 +23,25 @@ rank Flush = 3
 abbrev pub wire_cmp : WireNo → WireNo → Ordering
 wire_cmp v w = nat_cmp v.0 w.0
 
--- by the entry, then the group, the phase, the opening order and the place
+-- by the entry, then the group, the phase, the opening order, the input and the output
 abbrev pub key_cmp : ReplyKey → ReplyKey → Ordering
 key_cmp a b =
     ordering_then (option_cmp wire_cmp a.entry b.entry)
     (ordering_then (nat_cmp a.group.0 b.group.0)
     (ordering_then (nat_cmp (rank a.phase) (rank b.phase))
     (ordering_then (nat_cmp a.opening b.opening)
-    (nat_cmp a.place b.place))))
+    (ordering_then (nat_cmp a.input b.input)
+    (nat_cmp a.output b.output)))))
+
+abbrev pub is_before : ReplyKey → ReplyKey → Bool
+is_before a b = is_lt (key_cmp a b)
 
 abbrev pub key_of : Reply → ReplyKey
 key_of r = r.key
+
+-- The number of a reply is how many replies come before it.
+abbrev pub number_of : List Reply → ReplyKey → ℕ
+number_of replies key = count_by (λ (r : Reply). is_before r.key key) replies
 
 -- The tick of a reply is the clock of its entry, and 0 where it has none.
 abbrev pub tick_at : List Entry → Option WireNo → ℕ

@@ -1,5 +1,5 @@
 // The clocks of the entries of a wire list.
-ghost use Rattle.std.specs.Prelude.{◌≡◌, ℕ, ◌<◌, IfOk, length, slice_index};
+ghost use Rattle.std.specs.Prelude.{◌≡◌, ℕ, ◌<◌, ◌^◌, All, IfOk, length, slice_index};
 ghost use Rattle.ix_playdef.specs.Clock.{clock_after, clock_of};
 
 use ix_base::NoMemory;
@@ -7,7 +7,9 @@ use ix_wire::Entry;
 use std::alloc::Global;
 
 fn clock_after(clock: u64, entry: Entry) -> u64
-    ensures { result ≡ clock_after clock entry }
+    requires { clock < 2 ^ 32 }
+    ensures after { result ≡ clock_after clock entry }
+    ensures below { result < 2 ^ 32 }
 {
     match entry {
         Entry::Time { t } => t as u64,
@@ -20,6 +22,7 @@ fn clock_after(clock: u64, entry: Entry) -> u64
 pub fn clocks_of(alloc: Global, entries: &[Entry]) -> Result<Vec<u64>, NoMemory>
     ensures count { IfOk result (λ clocks. length clocks.items ≡ length entries.now) }
     ensures each { IfOk result (λ clocks. (w : ℕ) → w < length entries.now → slice_index clocks.items w ≡ clock_of entries.now w) }
+    ensures below { IfOk result (λ clocks. All (λ (clock : ℕ). clock < 2 ^ 32) clocks.items) }
 {
     let mut clock = 0;
     let mut clocks = Vec::with_capacity(alloc, entries.len())?;

@@ -6,6 +6,7 @@ mod connects;
 mod groups;
 mod order;
 mod own;
+mod replies;
 mod run;
 mod setting;
 #[cfg(test)]
@@ -16,6 +17,7 @@ pub use clock::clocks_of;
 pub use groups::group_records;
 pub use order::{Phase, Reply, ReplyKey, in_order, sent_at};
 pub use own::{initial_numbers, is_own, local_of};
+pub use replies::{end_at, key_at, number_of, replies_of, stray_key};
 pub use run::run_given;
 pub use setting::env_of;
 pub use wire::{GROUPS, Given, MAX_FRAME, entries_by_group, group_of_frame};

@@ -1,5 +1,5 @@
 -- Inputs that are refused, and inputs that are read whole.
-use Rattle.std.proofs.Common.{◌≡◌, ◌<◌, ◌≤◌, ◌++◌, ℕ, List, [], ◌∷◌, length, Bool, true, false, nat_lt, if◌then◌else◌, IfOk, IfErr, refl, ◌∙◌, ap, arith}
+use Rattle.std.proofs.Common.{◌≡◌, ◌≤◌, ◌++◌, ℕ, List, length, Bool, true, false, nat_lt, if◌then◌else◌, IfOk, IfErr, refl, ◌∙◌, ap, arith}
 use Rattle.std.proofs.lemmas.List.{append-nil}
 use Rattle.std.proofs.lemmas.Bool.Decides.{nat_tests}
 use Rattle.std.specs.Prelude.{Result, Ok, Err, Option, Some, None}
@@ -7,30 +7,17 @@ use Rattle.std.specs.Io.KnownBytes.{prepend_known, IsAtEnd}
 use Rattle.ix_pcap.specs.declared.records.Span.{Span}
 use Rattle.ix_pcap.specs.declared.records.CaptureFault.{CaptureFault}
 use Rattle.ix_pcap.specs.declared.records.CaptureFault.TheVariants.{CutHeader, Pcapng, BadMagic, BadVersion, BadLink, TooManyRecords, CutRecord, NoMemory}
-use Rattle.ix_pcap.specs.Capture.{Gives, frames_of}
+use Rattle.ix_pcap.specs.Capture.{Gives}
 use Rattle.ix_conf.specs.declared.keys.ConfFault.{ConfFault}
 use Rattle.ix_conf.specs.declared.keys.ConfFault.TheVariants as conf
 use Rattle.ix_conf.specs.declared.settings.Conf.{Conf}
 use Rattle.ix_conf.specs.Settings.{Settings, settings_of}
 use Rattle.ix_conf.specs.Value.{Gives as Gives-conf}
 use Rattle.ix_top.specs.Status.{capture_refusal, conf_refusal}
-use Rattle.ix_top.specs.declared.status.Status.TheVariants.{Unbuilt}
-use Rattle.ix_top.specs.declared.status.Unbuilt.TheVariants as unbuilt
-use Rattle.ix_top.specs.Top.{two_frames, frames_read, settings_read, Refuses}
-
-pub two_frames-few : (mac bytes : List ℕ) (spans : List Span) → length spans < 2 → two_frames mac (frames_of bytes spans) ≡ Err (Unbuilt unbuilt.Capture)
-two_frames-few mac bytes [] few = refl
-two_frames-few mac bytes (a ∷ []) few = refl
-two_frames-few mac bytes (a ∷ b ∷ spans) few = absurd (omega (arith, few))
-
-pub two_frames-many : (mac bytes : List ℕ) (spans : List Span) → 3 ≤ length spans → two_frames mac (frames_of bytes spans) ≡ Err (Unbuilt unbuilt.Capture)
-two_frames-many mac bytes [] many = absurd (omega (arith, many))
-two_frames-many mac bytes (a ∷ []) many = absurd (omega (arith, many))
-two_frames-many mac bytes (a ∷ b ∷ []) many = absurd (omega (arith, many))
-two_frames-many mac bytes (a ∷ b ∷ c ∷ spans) many = refl
+use Rattle.ix_top.specs.Top.{frames_read, settings_served, Refuses}
 
 -- The status of a refused configuration has its cause.
-pub Refuses-conf : (fault : ConfFault) (m : Result Settings ConfFault) → Gives-conf {A = Conf} {M = Settings} settings_of (Err fault) m → Refuses (conf_refusal fault) (settings_read m)
+pub Refuses-conf : (fault : ConfFault) (m : Result Settings ConfFault) → Gives-conf {A = Conf} {M = Settings} settings_of (Err fault) m → Refuses (conf_refusal fault) (settings_served m)
 Refuses-conf conf.Text m is = rw is refl
 Refuses-conf conf.Unknown m is = rw is refl
 Refuses-conf (conf.Missing key) m is = rw is refl

@@ -78,9 +78,6 @@ capture_text_of TooBig = codes "ix: capture: too-big"
 
 abbrev pub unbuilt_text_of : UnbuiltPart → List ℕ
 unbuilt_text_of unbuilt.Conf = codes "ix: unbuilt conf"
-unbuilt_text_of unbuilt.Capture = codes "ix: unbuilt capture"
-unbuilt_text_of unbuilt.Script = codes "ix: unbuilt script"
-unbuilt_text_of (unbuilt.Input w) = codes "ix: unbuilt input " ++ decimal w
 
 abbrev pub text_of : Status → List ℕ
 text_of Done = []

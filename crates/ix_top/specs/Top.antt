@@ -1,33 +1,29 @@
 -- What the inputs of a play mean, which status may come, and what was written.
-use Rattle.std.specs.Prelude.{◌≡◌, ◌⊎◌, ◌||◌, ◌&&◌, ◌==◌, Bool, true, false, ℕ, List, [], ◌∷◌, length, take, map, Result, Ok, Err, IsOk, String, string_bytes, Option, Some, None, nat_lt, if◌then◌else◌, codes}
+use Rattle.std.specs.Prelude.{◌≡◌, ◌⊎◌, ℕ, List, [], ◌∷◌, length, take, map, Result, Ok, Err, IsOk, String, string_bytes, Some, nat_lt, if◌then◌else◌, codes}
 use Rattle.std.specs.Io.KnownBytes.{IsAtEnd, append_known}
 use Rattle.ix_base.specs.declared.role.Role.TheVariants as role
 use Rattle.ix_base.specs.Host.{State}
 use Rattle.ix_pcap.specs.declared.records.Span.{Span}
 use Rattle.ix_pcap.specs.declared.records.CaptureFault.{CaptureFault}
 use Rattle.ix_pcap.specs.Capture.{capture_of, frames_of}
-use Rattle.ix_top.specs.declared.setup.Setup.{Setup}
 use Rattle.ix_top.specs.declared.status.Status.{Status}
 use Rattle.ix_top.specs.declared.status.Status.TheVariants.{Done, Usage, Conf, Script, Capture, ReadFault, WriteFault, NoMemory, Unbuilt}
 use Rattle.ix_top.specs.declared.status.ConfRefusal.TheVariants as conf
 use Rattle.ix_top.specs.declared.status.ScriptRefusal.TheVariants as script
 use Rattle.ix_top.specs.declared.status.CaptureRefusal.TheVariants as capture
 use Rattle.ix_top.specs.declared.status.Unbuilt.TheVariants as unbuilt
-use Rattle.ix_top.specs.declared.handshake.Handshake.{Handshake}
 use Rattle.ix_wire.specs.declared.entry.Entry.{Entry}
-use Rattle.ix_wire.specs.declared.entry.Entry.TheVariants as entries
 use Rattle.ix_wire.specs.declared.fault.ScriptFault.{ScriptFault}
 use Rattle.ix_script.specs.Script.{script_of}
 use Rattle.ix_top.specs.Status.{capture_refusal, conf_refusal, script_refusal}
 use Rattle.ix_conf.specs.Settings.{Settings, conf_of}
 use Rattle.ix_conf.specs.declared.keys.ConfFault.{ConfFault}
-use Rattle.ix_top.specs.Setup.{own_frame, served}
-use Rattle.ix_top.specs.Handshake.{handshake_of, replies_of, trace_of}
-
--- the frames of a capture of two records
-pub record Frames : Type 0 where
-  pub first : List ℕ
-  pub second : List ℕ
+use Rattle.ix_pcap.specs.Written.{capture_bytes}
+use Rattle.ix_playdef.specs.Order.{sent_of}
+use Rattle.ix_playdef.specs.Own.{own_frame}
+use Rattle.ix_report.specs.Fits.{Fits}
+use Rattle.ix_report.specs.Lines.{short_text}
+use Rattle.ix_report.specs.declared.report.Report.{Report}
 
 -- the inputs of a play, by their bytes
 pub record Given : Type 0 where
@@ -44,8 +40,15 @@ abbrev pub settings_read : Result Settings ConfFault → Result Settings Status
 settings_read (Ok settings) = Ok settings
 settings_read (Err fault) = Err (conf_refusal fault)
 
+-- A play takes one core.
+abbrev pub one_core : Settings → Result Settings Status
+one_core settings = if nat_lt 1 settings.cores then Err (Unbuilt unbuilt.Conf) else Ok settings
+
+abbrev pub settings_served : Result Settings ConfFault → Result Settings Status
+settings_served read = settings_read read >>= one_core
+
 abbrev pub conf_input : List ℕ → Result Settings Status
-conf_input bytes = if nat_lt 65536 (length bytes) then Err (Conf conf.TooBig) else settings_read (conf_of bytes)
+conf_input bytes = if nat_lt 65536 (length bytes) then Err (Conf conf.TooBig) else settings_served (conf_of bytes)
 
 abbrev pub frames_read : List ℕ → Result (List Span) CaptureFault → Result (List (List ℕ)) Status
 frames_read bytes (Ok spans) = Ok (frames_of bytes spans)
@@ -65,39 +68,29 @@ script_input settings frames bytes =
     if nat_lt 8388608 (length bytes) then Err (Script script.TooBig)
     else entries_read (script_of settings (map (own_frame settings.mac) frames) bytes)
 
--- ## What can be played yet
--- what a play takes from its configuration, where it can be played
-abbrev pub setup_served : Option Setup → Result Setup Status
-setup_served (Some setup) = Ok setup
-setup_served None = Err (Unbuilt unbuilt.Conf)
-
--- two records, none of them the local side's own
-abbrev pub two_frames : List ℕ → List (List ℕ) → Result Frames Status
-two_frames mac (first ∷ second ∷ []) =
-    if own_frame mac first || own_frame mac second then Err (Unbuilt unbuilt.Capture) else Ok (record { first = first; second = second })
-two_frames mac _ = Err (Unbuilt unbuilt.Capture)
-
--- the entries that can be played: both records, each with a settle behind it, and the settle at the end
-abbrev pub are_served : List Entry → Bool
-are_served (entries.Frame first ∷ entries.Settle ∷ entries.Frame second ∷ entries.Settle ∷ entries.Settle ∷ []) = (first == 0) && (second == 1)
-are_served _ = false
-
-abbrev pub entries_served : Bool → Result Bool Status
-entries_served true = Ok true
-entries_served false = Err (Unbuilt unbuilt.Script)
-
--- the handshake of inputs that were read, or the first of them that can't be played
-abbrev pub played : Settings → List (List ℕ) → List Entry → Result Handshake Status
-played settings frames entries =
-    setup_served (served settings) >>= λ setup. two_frames setup.local.mac frames >>= λ two. entries_served (are_served entries) >>= λ _.
-    handshake_of setup two.first two.second
-
 -- ## A play
--- the handshake that the inputs play, or the first refusal in the order of reading; all are read before one is found that can't be played
-abbrev pub play_meaning : Given → Result Handshake Status
+-- what the inputs of a play are
+pub record Inputs : Type 0 where
+  pub settings : Settings
+  pub frames : List (List ℕ)
+  pub entries : List Entry
+
+-- the inputs of a play, or the first refusal in the order of reading
+abbrev pub play_meaning : Given → Result Inputs Status
 play_meaning g =
     conf_input g.conf >>= λ settings. capture_input g.capture >>= λ frames. script_input settings frames g.script >>= λ entries.
-    played settings frames entries
+    Ok (record { settings = settings; frames = frames; entries = entries })
+
+-- the replies file of a report: its replies in their order, each at the clock of its entry
+abbrev pub replies_file : List Entry → Report → List ℕ
+replies_file entries report = capture_bytes (map (sent_of entries) report.replies)
+
+-- the two files are those of a report that fits these inputs
+pub record AreFiles (inputs : Inputs) (replies trace : List ℕ) : Type 0 where
+  pub report : Report
+  pub fits : Fits inputs.settings inputs.frames inputs.entries report
+  pub replies_are : replies ≡ replies_file inputs.entries report
+  pub trace_is : trace ≡ short_text report
 
 -- the host tells what the three roles have left
 pub record Tells (x : State) (g : Given) : Type 0 where
@@ -112,7 +105,7 @@ pub record AllRead (x : State) : Type 0 where
   pub script : IsAtEnd (x.left role.Script)
 
 -- the status that a play with this meaning answers, where it isn't a fault or want of memory
-abbrev pub Answers : Status → Result Handshake Status → Type 0
+abbrev pub Answers : Status → Result Inputs Status → Type 0
 Answers Done m = IsOk m
 Answers WriteFault m = IsOk m
 Answers (Conf f) m = m ≡ Err (Conf f)
@@ -172,15 +165,21 @@ AppendsFront old new replies trace =
 
 -- a play of these inputs wrote both files whole
 pub record Played (g : Given) (old new : State) : Type 0 where
-  pub handshake : Handshake
-  pub meaning : play_meaning g ≡ Ok handshake
-  pub writes : Appends old new (replies_of handshake) (trace_of handshake)
+  pub inputs : Inputs
+  pub replies : List ℕ
+  pub trace : List ℕ
+  pub meaning : play_meaning g ≡ Ok inputs
+  pub files : AreFiles inputs replies trace
+  pub writes : Appends old new replies trace
 
 -- a play of these inputs wrote a front of what it was to write
 pub record PlayedFront (g : Given) (old new : State) : Type 0 where
-  pub handshake : Handshake
-  pub meaning : play_meaning g ≡ Ok handshake
-  pub writes : AppendsFront old new (replies_of handshake) (trace_of handshake)
+  pub inputs : Inputs
+  pub replies : List ℕ
+  pub trace : List ℕ
+  pub meaning : play_meaning g ≡ Ok inputs
+  pub files : AreFiles inputs replies trace
+  pub writes : AppendsFront old new replies trace
 
 -- the words of a play
 abbrev pub IsPlay : {A : Type 0} → List (String A) → Type 0

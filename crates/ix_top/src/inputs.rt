@@ -1,25 +1,25 @@
 // Reads the three inputs of a play, each with its meaning before the next.
-ghost use Rattle.std.specs.Prelude.{◌≡◌, ◌≢◌, ◌≤◌, List, ℕ, map, IfOk, IfErr, OnOk, IsErrOf, Some, Ok, Err};
+ghost use Rattle.std.specs.Prelude.{◌≡◌, ◌≢◌, ◌≤◌, ◌<◌, ◌^◌, List, ℕ, length, map, IfOk, IfErr, OnOk, IsErrOf, Some, Ok, Err};
 ghost use Rattle.std.specs.Io.KnownBytes.{IsAtEnd};
 ghost use Rattle.ix_base.specs.declared.role.Role.TheVariants as role;
 ghost use Rattle.ix_base.specs.declared.role.Kind.TheVariants.{Reading, Writing};
 ghost use Rattle.ix_base.specs.Host.{Rose, Reads};
 ghost use Rattle.ix_conf.specs.Settings.{conf_of, settings_of};
 ghost use Rattle.ix_script.specs.Script.{script_of};
-ghost use Rattle.ix_top.specs.Setup.{own_frame};
-ghost use Rattle.ix_top.specs.Top.{conf_input, settings_read, capture_input, script_input, entries_read, played, play_meaning, Given, Refuses, IsStop, Tells, AllRead, WritesNothing};
+ghost use Rattle.ix_playdef.specs.Own.{own_frame};
+ghost use Rattle.ix_top.specs.Top.{conf_input, settings_served, capture_input, script_input, entries_read, play_meaning, Given, Refuses, IsStop, Tells, AllRead, WritesNothing};
 
-use crate::handshake::{Handshake, read_handshake};
 use crate::reading::{ReadError, load};
 use crate::records::Records;
-use crate::setup::{is_served, setup_of};
 use crate::status::{
     CaptureRefusal, ConfRefusal, ScriptRefusal, Status, Unbuilt, conf_status, script_status,
 };
 use ix_base::{Bytes, Host, NoMemory, Role};
 use ix_conf::{Conf, read_conf};
+use ix_report::Report;
 use ix_script::{Entry, read_script};
 use std::alloc::Global;
+use std::marker::Model;
 
 const CONF_LIMIT: usize = 65_536;
 
@@ -27,16 +27,59 @@ const CAPTURE_LIMIT: usize = 67_108_864;
 
 const SCRIPT_LIMIT: usize = 8_388_608;
 
-/// The handshake that the three inputs play, or the status that stops the reading.
+/// What the three inputs of a play are.
+#[derive(Drop)]
+pub struct Inputs {
+    conf: Conf,
+    records: Records,
+    entries: Vec<Entry>,
+}
+
+impl Model for Inputs {
+    ghost use Rattle.std.specs.Prelude.{◌≤◌, ◌^◌, length};
+    ghost use Rattle.ix_conf.specs.Settings.{settings_of};
+    ghost use Rattle.ix_top.specs.Top as meaning;
+
+    ghost Value = { meaning.Inputs };
+
+    ghost view = { λ i. record { settings = settings_of i.conf; frames = i.records; entries = i.entries.items } };
+
+    ghost invariant = { λ i. length i.entries.items ≤ 2 ^ 32 };
+}
+
+impl Inputs {
+    ghost use Rattle.std.specs.Prelude.{◌≡◌, ◌<◌, ◌^◌, All, IfOk, length};
+    ghost use Rattle.ix_playdef.specs.Replies.{IsShort};
+    ghost use Rattle.ix_report.specs.Fits.{Fits};
+
+    /// The wire list.
+    pub fn entries(&self) -> &[Entry]
+        ensures { result.now ≡ self.now.entries }
+    {
+        self.entries.as_slice()
+    }
+
+    /// Plays them on one core.
+    pub fn play(&self, alloc: Global) -> Result<Report, NoMemory>
+        ensures fits { IfOk result (λ report. Fits self.now.settings self.now.frames self.now.entries report) }
+        ensures few { IfOk result (λ report. length report.replies < 2 ^ 32) }
+        ensures short { IfOk result (λ report. All IsShort report.replies) }
+    {
+        self.records
+            .play(alloc, &self.conf, self.entries.as_slice())
+    }
+}
+
+/// What the three inputs are, or the status that stops the reading.
 pub fn read_inputs<H: Host>(
     alloc: Global,
     host: &mut H,
     conf: &str,
     script: &str,
     capture: &str,
-) -> Result<Handshake, Status>
+) -> Result<Inputs, Status>
     ensures end { OnOk result (AllRead (H.state host.new)) }
-    ensures ok { IfOk result (λ h. (g : Given) → Tells (H.state host.old) g → play_meaning g ≡ Ok h) }
+    ensures ok { IfOk result (λ inputs. (g : Given) → Tells (H.state host.old) g → play_meaning g ≡ Ok inputs) }
     ensures err { IfErr result (λ e. (g : Given) → Tells (H.state host.old) g → Refuses e (play_meaning g)) }
     ensures stops { IfErr result IsStop }
     ensures failed { IsErrOf result Status.ReadFault → Rose ((H.state host.old).faults Reading) ((H.state host.new).faults Reading) }
@@ -47,7 +90,11 @@ pub fn read_inputs<H: Host>(
     let conf = read_settings(alloc, host, conf)?;
     let records = read_records(alloc, host, capture)?;
     let entries = read_entries(alloc, host, script, &conf, &records)?;
-    play_of(alloc, &conf, &records, entries.as_slice())
+    Ok(Inputs {
+        conf,
+        records,
+        entries,
+    })
 }
 
 fn read_settings<H: Host>(alloc: Global, host: &mut H, name: &str) -> Result<Conf, Status>
@@ -68,15 +115,20 @@ fn read_settings<H: Host>(alloc: Global, host: &mut H, name: &str) -> Result<Con
     parse_conf(alloc, &bytes)
 }
 
-// The configuration of these bytes.
+// The configuration of these bytes, where it has one core.
 fn parse_conf(alloc: Global, bytes: &[u8]) -> Result<Conf, Status>
-    ensures ok { IfOk result (λ c. settings_read (conf_of bytes.now) ≡ Ok (settings_of c)) }
-    ensures err { IfErr result (λ e. Refuses e (settings_read (conf_of bytes.now))) }
+    ensures ok { IfOk result (λ c. settings_served (conf_of bytes.now) ≡ Ok (settings_of c)) }
+    ensures err { IfErr result (λ e. Refuses e (settings_served (conf_of bytes.now))) }
     ensures stops { IfErr result IsStop }
     ensures failed { result ≢ Err Status.ReadFault }
 {
     match read_conf(alloc, bytes) {
-        Ok(conf) => Ok(conf),
+        Ok(conf) => {
+            if conf.cores > 1 {
+                return Err(Status::Unbuilt(Unbuilt::Conf));
+            }
+            Ok(conf)
+        }
         Err(fault) => Err(conf_status(fault)),
     }
 }
@@ -110,6 +162,7 @@ fn read_entries<H: Host>(
     ensures end { OnOk result (IsAtEnd ((H.state host.new).left role.Script)) }
     ensures ok { IfOk result (λ e. (s : List ℕ) → (H.state host.old).left role.Script ≡ Some s → script_input (settings_of conf.now) records.now s ≡ Ok e.items) }
     ensures err { IfErr result (λ e. (s : List ℕ) → (H.state host.old).left role.Script ≡ Some s → Refuses e (script_input (settings_of conf.now) records.now s)) }
+    ensures numbers { IfOk result (λ e. length e.items ≤ 2 ^ 32) }
     ensures stops { IfErr result IsStop }
     ensures failed { IsErrOf result Status.ReadFault → Rose ((H.state host.old).faults Reading) ((H.state host.new).faults Reading) }
 {
@@ -132,6 +185,7 @@ fn parse_entries(
 ) -> Result<Vec<Entry>, Status>
     ensures ok { IfOk result (λ e. entries_read (script_of (settings_of conf.now) (map (own_frame conf.now.mac) records.now) bytes.now) ≡ Ok e.items) }
     ensures err { IfErr result (λ e. Refuses e (entries_read (script_of (settings_of conf.now) (map (own_frame conf.now.mac) records.now) bytes.now))) }
+    ensures numbers { IfOk result (λ e. length e.items ≤ 2 ^ 32) }
     ensures stops { IfErr result IsStop }
     ensures failed { result ≢ Err Status.ReadFault }
 {
@@ -143,31 +197,6 @@ fn parse_entries(
         Ok(entries) => Ok(entries),
         Err(fault) => Err(script_status(fault)),
     }
-}
-
-// The handshake of inputs that were read, or the first of them that can't be played.
-fn play_of(
-    alloc: Global,
-    conf: &Conf,
-    records: &Records,
-    entries: &[Entry],
-) -> Result<Handshake, Status>
-    ensures ok { IfOk result (λ h. played (settings_of conf.now) records.now entries.now ≡ Ok h) }
-    ensures err { IfErr result (λ e. Refuses e (played (settings_of conf.now) records.now entries.now)) }
-    ensures stops { IfErr result IsStop }
-    ensures failed { result ≢ Err Status.ReadFault }
-{
-    let Some(setup) = setup_of(conf) else {
-        return Err(Status::Unbuilt(Unbuilt::Conf));
-    };
-    let frames = match records.frames(alloc, &setup.local.mac) {
-        Ok(frames) => frames,
-        Err(status) => return Err(status),
-    };
-    if !is_served(entries) {
-        return Err(Status::Unbuilt(Unbuilt::Script));
-    }
-    read_handshake(&setup, frames.first.as_slice(), frames.second.as_slice())
 }
 
 fn stop(error: ReadError) -> Status

@@ -1,15 +1,12 @@
 //! The top call: all that the program does.
 #![tactic(auto)]
 
-mod handshake;
 mod inputs;
 mod outputs;
 mod reading;
 mod records;
-mod setup;
 mod status;
 mod top;
-mod trace;
 mod writing;
 
 pub use status::{CaptureRefusal, ConfRefusal, ScriptRefusal, Status, Unbuilt, status_text};

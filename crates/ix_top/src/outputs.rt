@@ -1,14 +1,19 @@
 // Makes the two files of a play, and writes them.
-ghost use Rattle.std.specs.Prelude.{◌≡◌, IfOk, OnOk, OnErr};
+ghost use Rattle.std.specs.Prelude.{◌≡◌, All, IfOk, OnOk, OnErr, map};
 ghost use Rattle.ix_base.specs.declared.role.Kind.TheVariants.{Reading, Writing};
 ghost use Rattle.ix_base.specs.Host.{Rose};
-ghost use Rattle.ix_top.specs.Handshake.{replies_of, trace_of};
-ghost use Rattle.ix_top.specs.Top.{Appends, AppendsFront};
+ghost use Rattle.ix_pcap.specs.Written.{capture_bytes};
+ghost use Rattle.ix_playdef.specs.Order.{sent_of};
+ghost use Rattle.ix_playdef.specs.Replies.{IsShort};
+ghost use Rattle.ix_top.specs.Top.{AreFiles, Appends, AppendsFront};
 
-use crate::handshake::Handshake;
-use crate::trace::trace_text;
+use crate::inputs::Inputs;
 use crate::writing::store;
-use ix_base::{Bytes, Failed, Host, NoMemory, Role};
+use ix_base::{Bytes, Failed, Host, List, NoMemory, Role};
+use ix_pcap::write_capture;
+use ix_playdef::{Reply, sent_at};
+use ix_report::{Report, short_text};
+use ix_wire::Entry;
 use std::alloc::Global;
 
 /// The two files that a play writes.
@@ -18,14 +23,24 @@ pub struct Output {
     pub trace: Bytes,
 }
 
-/// Makes both files whole.
-pub fn perform(alloc: Global, handshake: &Handshake) -> Result<Output, NoMemory>
-    ensures { IfOk result (λ o. (o.replies ≡ replies_of handshake.now) × (o.trace ≡ trace_of handshake.now)) }
+// The replies file of a report.
+fn replies_file(alloc: Global, entries: &[Entry], replies: List<Reply>) -> Result<Bytes, NoMemory>
+    requires { All IsShort replies }
+    ensures { IfOk result (λ bytes. bytes ≡ capture_bytes (map (sent_of entries.now) replies)) }
 {
-    Ok(Output {
-        replies: handshake.replies(alloc)?,
-        trace: trace_text(alloc, handshake)?,
-    })
+    let sent = sent_at(alloc, entries, replies.into_vec())?;
+    write_capture(alloc, sent.as_slice())
+}
+
+/// Plays, and makes both files whole.
+pub fn perform(alloc: Global, inputs: &Inputs) -> Result<Output, NoMemory>
+    ensures { IfOk result (λ output. AreFiles inputs.now output.replies output.trace) }
+{
+    let report = inputs.play(alloc)?;
+    let trace = short_text(alloc, &report)?;
+    let Report { replies, .. } = report;
+    let replies = replies_file(alloc, inputs.entries(), replies)?;
+    Ok(Output { replies, trace })
 }
 
 /// Writes the replies, then the trace.

@@ -1,14 +1,15 @@
 // The records of a capture that was read.
-ghost use Rattle.std.specs.Prelude.{◌≡◌, ◌≢◌, map, IfOk, IfErr, Ok, Err, All};
+ghost use Rattle.std.specs.Prelude.{◌≡◌, map, IfOk, All};
 ghost use Rattle.ix_pcap.specs.Capture.{IsSpanOf, frames_of};
-ghost use Rattle.ix_top.specs.Loaded.{frames_in};
-ghost use Rattle.ix_top.specs.Setup.{own_frame};
-ghost use Rattle.ix_top.specs.Top.{two_frames, Refuses, IsStop};
+ghost use Rattle.ix_playdef.specs.Own.{own_frame};
 
-use crate::setup::is_own;
-use crate::status::{Status, Unbuilt, capture_status};
+use crate::status::{Status, capture_status};
 use ix_base::{Bytes, NoMemory};
+use ix_conf::Conf;
 use ix_pcap::{Capture, read_capture};
+use ix_playdef::is_own;
+use ix_report::{Report, play};
+use ix_wire::Entry;
 use std::alloc::Global;
 use std::marker::Model;
 
@@ -17,13 +18,6 @@ use std::marker::Model;
 pub struct Records {
     bytes: Bytes,
     capture: Capture,
-}
-
-/// The frames of a capture of two records.
-#[derive(Drop)]
-pub struct Frames {
-    pub first: Bytes,
-    pub second: Bytes,
 }
 
 impl Model for Records {
@@ -38,11 +32,13 @@ impl Model for Records {
 }
 
 impl Records {
-    ghost use Rattle.std.specs.Prelude.{◌≡◌, ◌≢◌, map, IfOk, IfErr, Ok, Err};
+    ghost use Rattle.std.specs.Prelude.{◌≡◌, ◌≢◌, ◌≤◌, ◌<◌, ◌^◌, All, length, map, IfOk, IfErr, Ok, Err};
     ghost use Rattle.ix_pcap.specs.Capture.{capture_of};
-    ghost use Rattle.ix_top.specs.Loaded.{frames_in};
-    ghost use Rattle.ix_top.specs.Setup.{own_frame};
-    ghost use Rattle.ix_top.specs.Top.{frames_read, two_frames, Refuses, IsStop};
+    ghost use Rattle.ix_conf.specs.Settings.{settings_of};
+    ghost use Rattle.ix_playdef.specs.Own.{own_frame};
+    ghost use Rattle.ix_playdef.specs.Replies.{IsShort};
+    ghost use Rattle.ix_report.specs.Fits.{Fits};
+    ghost use Rattle.ix_top.specs.Top.{frames_read, Refuses, IsStop};
 
     /// The records of a capture file.
     pub fn parse(alloc: Global, bytes: Bytes) -> Result<Records, Status>
@@ -64,14 +60,14 @@ impl Records {
         own_of(alloc, self.bytes.as_slice(), &self.capture, mac)
     }
 
-    /// The frames of two records, none of them the local side's own.
-    pub fn frames(&self, alloc: Global, mac: &[u8; 6]) -> Result<Frames, Status>
-        ensures ok { IfOk result (λ f. two_frames mac.now self.now ≡ Ok (frames_in f)) }
-        ensures err { IfErr result (λ e. Refuses e (two_frames mac.now self.now)) }
-        ensures stops { IfErr result IsStop }
-        ensures failed { result ≢ Err Status.ReadFault }
+    /// The play of this configuration and this wire list over them, on one core.
+    pub fn play(&self, alloc: Global, conf: &Conf, entries: &[Entry]) -> Result<Report, NoMemory>
+        requires { length entries.now ≤ 2 ^ 32 }
+        ensures fits { IfOk result (λ report. Fits (settings_of conf.now) self.now entries.now report) }
+        ensures few { IfOk result (λ report. length report.replies < 2 ^ 32) }
+        ensures short { IfOk result (λ report. All IsShort report.replies) }
     {
-        take_frames(alloc, self.bytes.as_slice(), &self.capture, mac)
+        play(alloc, conf, self.bytes.as_slice(), &self.capture, entries)
     }
 }
 
@@ -92,42 +88,4 @@ fn own_of(
         own.push(is_own(mac, &bytes[span.from..span.to]))?;
     }
     Ok(own)
-}
-
-// The frames of a capture of two records, none of them the local side's own.
-fn take_frames(
-    alloc: Global,
-    bytes: &[u8],
-    capture: &Capture,
-    mac: &[u8; 6],
-) -> Result<Frames, Status>
-    requires { All (IsSpanOf bytes.now) capture.now }
-    ensures ok { IfOk result (λ f. two_frames mac.now (frames_of bytes.now capture.now) ≡ Ok (frames_in f)) }
-    ensures err { IfErr result (λ e. Refuses e (two_frames mac.now (frames_of bytes.now capture.now))) }
-    ensures stops { IfErr result IsStop }
-    ensures failed { result ≢ Err Status.ReadFault }
-{
-    match capture.spans() {
-        [first, second] => {
-            let first = &bytes[first.from..first.to];
-            let second = &bytes[second.from..second.to];
-            if is_own(mac, first) || is_own(mac, second) {
-                return Err(Status::Unbuilt(Unbuilt::Capture));
-            }
-            match copy_frames(alloc, first, second) {
-                Ok(frames) => Ok(frames),
-                Err(NoMemory) => Err(Status::NoMemory),
-            }
-        }
-        _ => Err(Status::Unbuilt(Unbuilt::Capture)),
-    }
-}
-
-fn copy_frames(alloc: Global, first: &[u8], second: &[u8]) -> Result<Frames, NoMemory>
-    ensures { IfOk result (λ f. frames_in f ≡ record { first = first.now; second = second.now }) }
-{
-    Ok(Frames {
-        first: Bytes::from_slice(alloc, first)?,
-        second: Bytes::from_slice(alloc, second)?,
-    })
 }

@@ -69,14 +69,8 @@ pub enum CaptureRefusal {
 /// What this program can't play yet.
 #[derive(Clone, Copy, Debug, PartialEq, Eq)]
 pub enum Unbuilt {
-    /// A configuration of several cores, or of another application than echo.
+    /// A configuration of several cores.
     Conf,
-    /// A capture of other than two records, or with a record of the local side's own.
-    Capture,
-    /// A script that gives other entries than both records, each with a settle behind it.
-    Script,
-    /// The frame of wire entry `w` isn't the one that a handshake has there.
-    Input { w: u32 },
 }
 
 impl Status {
@@ -213,9 +207,6 @@ fn unbuilt_text(alloc: Global, unbuilt: &Unbuilt) -> Result<String, AllocError>
 {
     match unbuilt {
         Unbuilt::Conf => String::from_str(alloc, "ix: unbuilt conf"),
-        Unbuilt::Capture => String::from_str(alloc, "ix: unbuilt capture"),
-        Unbuilt::Script => String::from_str(alloc, "ix: unbuilt script"),
-        Unbuilt::Input { w } => counted(alloc, "ix: unbuilt input ", *w as usize),
     }
 }
 

@@ -124,14 +124,27 @@ fn other_words_are_refused(rt: HostRuntime) -> Result<(), Fail> {
     Ok(())
 }
 
+#[test]
+fn several_cores_are_unbuilt(rt: HostRuntime) -> Result<(), Fail> {
+    let alloc = rt.alloc();
+    let mut conf = CONF.to_vec(alloc)?;
+    conf.extend_from_slice(b"[core]\ncores = 2\n")?;
+    let mut memory = host(alloc, conf.as_slice(), CAPTURE, SCRIPT, ROOM, &[])?;
+    let status = ix(&rt, alloc, words(alloc, &PLAY)?.as_slice(), &mut memory);
+    assert_eq!(rt; status.number(), 9);
+    let text = status_text(alloc, &status)?;
+    assert_eq!(rt; text.as_slice(), b"ix: unbuilt conf".as_slice());
+    assert_eq!(rt; memory.written(Role::Replies).len(), 0);
+    Ok(())
+}
+
 // Scripts that can't be played, with the number of their status and its text.
-const SCRIPTS: [(&[u8], u8, &str); 6] = [
+const SCRIPTS: [(&[u8], u8, &str); 5] = [
     (b"revoke 0", 3, "ix: script: line 1: last-core"),
     (b"move 5 0\n", 3, "ix: script: line 1: not-tagged"),
     (b"tag 5\n", 3, "ix: script: line 1: left-tagged"),
     (b"time 5\n# a note\ntime 4\n", 3, "ix: script: line 3: back"),
     (b"each 0 2\n", 3, "ix: script: line 1: no-record"),
-    (b"frames 0 1\n", 9, "ix: unbuilt script"),
 ];
 
 #[test]

@@ -37,11 +37,11 @@ pub fn ix<R: Wait, H: Host>(_rt: &R, alloc: Global, words: &[String], host: &mut
 {
     match words {
         [command, conf, script, capture, replies, trace] if command.as_str() == "play" => {
-            let handshake = match read_inputs(alloc, host, conf, script, capture) {
-                Ok(handshake) => handshake,
+            let inputs = match read_inputs(alloc, host, conf, script, capture) {
+                Ok(inputs) => inputs,
                 Err(status) => return status,
             };
-            let Ok(output) = perform(alloc, &handshake) else {
+            let Ok(output) = perform(alloc, &inputs) else {
                 return Status::NoMemory;
             };
             match deliver(host, replies, trace, &output) {

@@ -1,9 +1,12 @@
-use Rattle.std.proofs.Common.{◌≡◌, ℕ, ◌<◌, length, get_or, take}
+use Rattle.std.proofs.Common.{◌≡◌, ℕ, ◌<◌, ◌^◌, All, length, get_or, take}
 use Rattle.ix_playdef.specs.Clock.{clock_from, clock_of}
 use Rattle.ix_playdef.proofs.clock.clocks_of.Given as goal
 
 abbrev pub invariant-loop-i : goal.invariant-loop-i
-invariant-loop-i l =
-    (length l.clocks.items ≡ l.i)
-    × (l.clock ≡ clock_from 0 (take l.i l.entries))
-    × ((w : ℕ) → w < l.i → get_or l.clocks.items w 0 ≡ clock_of l.entries w)
+invariant-loop-i l = record {
+  count : length l.clocks.items ≡ l.i;
+  clock : l.clock ≡ clock_from 0 (take l.i l.entries);
+  each : (w : ℕ) → w < l.i → get_or l.clocks.items w 0 ≡ clock_of l.entries w;
+  now : l.clock < 2 ^ 32;
+  below : All (λ (c : ℕ). c < 2 ^ 32) l.clocks.items;
+}

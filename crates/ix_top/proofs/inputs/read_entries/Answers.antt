@@ -7,7 +7,7 @@ use Rattle.ix_top.specs.declared.status.ScriptRefusal.TheVariants.{TooBig}
 use Rattle.ix_conf.specs.Settings.{settings_of}
 use Rattle.ix_script.specs.Script.{script_of}
 use Rattle.ix_wire.specs.declared.entry.Entry.{Entry}
-use Rattle.ix_top.specs.Setup.{own_frame}
+use Rattle.ix_playdef.specs.Own.{own_frame}
 use Rattle.ix_top.specs.Top.{entries_read, Refuses}
 use Rattle.ix_top.proofs.Meanings.{IfOk-map, IfErr-map, input-whole}
 use Rattle.ix_top.proofs.inputs.read_entries.Goals as goal

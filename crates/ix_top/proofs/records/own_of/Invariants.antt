@@ -1,6 +1,6 @@
 use Rattle.std.proofs.Common.{◌≡◌, map, take}
 use Rattle.ix_pcap.specs.Capture.{frames_of}
-use Rattle.ix_top.specs.Setup.{own_frame}
+use Rattle.ix_playdef.specs.Own.{own_frame}
 use Rattle.ix_top.proofs.records.own_of.Given as goal
 
 abbrev pub invariant-loop-i : goal.invariant-loop-i

@@ -1,0 +1,267 @@
+// The lines of a report's short text.
+ghost use Rattle.std.specs.Prelude.{◌≡◌, ◌≤◌, ◌<◌, ◌^◌, ◌++◌, [], ◌∷◌, OnOk, IfOk, length, map};
+ghost use Rattle.std.specs.List.Sorted.{IsSortedByKey};
+ghost use Rattle.ix_lines.specs.declared.line.Line.TheVariants as kinds;
+ghost use Rattle.ix_playdef.specs.Order.{key_cmp, key_of, number_of};
+ghost use Rattle.ix_playdef.specs.Placed.{placed};
+ghost use Rattle.ix_report.specs.Lines.{call_kind, conn_lines, group_lines, input_kind, input_lines, lines_of, opening_of, output_line, ret_line, told_line};
+
+use crate::report::Report;
+use ix_base::{BufId, CoreId, GroupId, NoMemory, Ret, WireNo};
+use ix_groupdef::{ConnEnd, GroupRecord, JournalEntry};
+use ix_lines::{InputKind, Line, Opening, OutputLine, RetLine, StrayLine};
+use ix_playdef::{Reply, ReplyKey, end_at, key_at, number_of};
+use ix_tcpdef::{Ask, Input, Output, Told};
+use std::alloc::Global;
+
+fn ret_line(ret: Ret) -> RetLine
+    ensures { result ≡ ret_line ret }
+{
+    match ret {
+        Ret::Done(n) => RetLine::Done(n),
+        Ret::BadHandle => RetLine::BadHandle,
+        Ret::NotKnocked => RetLine::NotKnocked,
+        Ret::TooMuch => RetLine::TooMuch,
+        _ => RetLine::NotOpen,
+    }
+}
+
+fn told_line(told: Told) -> OutputLine
+    ensures { result ≡ told_line told }
+{
+    match told {
+        Told::Knock => OutputLine::Knock,
+        Told::ConnectedUp => OutputLine::ConnectedUp,
+        Told::ConnectedRefused => OutputLine::ConnectedRefused,
+        Told::ConnectedTimeout => OutputLine::ConnectedTimeout,
+        Told::Recv { from, len, .. } => OutputLine::Recv {
+            buf: BufId {
+                home: CoreId(0),
+                slot: 0,
+            },
+            from,
+            len,
+        },
+        Told::RecvEnd => OutputLine::RecvEnd,
+        Told::Sent { bytes, window } => OutputLine::Sent { bytes, window },
+        Told::DeadReset => OutputLine::DeadReset,
+        Told::DeadTimeout => OutputLine::DeadTimeout,
+    }
+}
+
+fn output_line(replies: &[Reply], key: &ReplyKey, output: &Output) -> OutputLine
+    requires order { IsSortedByKey key_of key_cmp replies.now }
+    requires few { length replies.now < 2 ^ 32 }
+    ensures { result ≡ output_line replies.now key.now output.now }
+{
+    match output {
+        Output::Frame(_) => OutputLine::Reply(number_of(replies, key) as u32),
+        Output::Told(told) => told_line(*told),
+        Output::Ret(ret) => OutputLine::Ret(ret_line(*ret)),
+    }
+}
+
+fn call_kind(ask: &Ask) -> InputKind
+    ensures { result ≡ call_kind ask.now }
+{
+    match ask {
+        Ask::Connect => InputKind::Connect,
+        Ask::Accept => InputKind::Accept,
+        Ask::Sendv { bytes } => InputKind::Sendv {
+            n: bytes.len() as u64,
+        },
+        Ask::RecvDone { bytes } => InputKind::RecvDone { n: *bytes },
+        Ask::Close => InputKind::Close,
+    }
+}
+
+fn input_kind(entry: &JournalEntry, end: Option<WireNo>) -> InputKind
+    ensures { result ≡ input_kind entry.now.input entry.now.clock entry.now.core end }
+{
+    match &entry.input {
+        Input::Segment { w, .. } => InputKind::Seg {
+            w: *w,
+            core: entry.core.unwrap_or(CoreId(0)),
+        },
+        Input::Timer => InputKind::Timer { t: entry.clock },
+        Input::Call(ask) => call_kind(ask),
+        Input::Flush => InputKind::Flush {
+            w: end.unwrap_or(WireNo(0)),
+        },
+    }
+}
+
+// Adds the line of an output.
+fn push_output(
+    replies: &[Reply],
+    key: &ReplyKey,
+    output: &Output,
+    lines: &mut Vec<Line>,
+) -> Result<(), NoMemory>
+    requires order { IsSortedByKey key_of key_cmp replies.now }
+    requires few { length replies.now < 2 ^ 32 }
+    ensures { OnOk result (lines.new.items ≡ lines.old.items ++ kinds.Output (output_line replies.now key.now output.now) ∷ []) }
+{
+    lines.push(Line::Output(output_line(replies, key, output)))?;
+    Ok(())
+}
+
+// Adds those of an input with what it gave.
+#[tactic(auto, using(ix_playdef::proofs::Placed::steps))]
+fn push_input(
+    replies: &[Reply],
+    group: GroupId,
+    opening: usize,
+    ends: &[Option<WireNo>],
+    at: usize,
+    entry: &JournalEntry,
+    lines: &mut Vec<Line>,
+) -> Result<(), NoMemory>
+    requires order { IsSortedByKey key_of key_cmp replies.now }
+    requires few { length replies.now < 2 ^ 32 }
+    ensures { OnOk result (lines.new.items ≡ lines.old.items ++ input_lines replies.now group.0 opening ends.now at entry.now) }
+{
+    let end = end_at(ends, at);
+    lines.push(Line::Input(input_kind(entry, end)))?;
+    let outputs = entry.outputs.as_slice();
+    for i in 0..outputs.len() {
+        let key = key_at(group, opening, at, &entry.input, end, i);
+        push_output(replies, &key, &outputs[i], lines)?;
+    }
+    Ok(())
+}
+
+// Adds those of a journal.
+#[tactic(auto, using(ix_playdef::proofs::Placed::steps))]
+fn push_journal(
+    replies: &[Reply],
+    group: GroupId,
+    opening: usize,
+    ends: &[Option<WireNo>],
+    journal: &[JournalEntry],
+    lines: &mut Vec<Line>,
+) -> Result<(), NoMemory>
+    requires order { IsSortedByKey key_of key_cmp replies.now }
+    requires few { length replies.now < 2 ^ 32 }
+    ensures { OnOk result (lines.new.items ≡ lines.old.items ++ placed (input_lines replies.now group.0 opening ends.now) 0 journal.now) }
+{
+    for i in 0..journal.len() {
+        push_input(replies, group, opening, ends, i, &journal[i], lines)?;
+    }
+    Ok(())
+}
+
+fn opening_of(group: GroupId, conn: &ConnEnd) -> Opening
+    ensures { result ≡ opening_of group.0 conn.now }
+{
+    Opening {
+        group,
+        remote: conn.flow.remote,
+        remote_port: conn.flow.remote_port,
+        local_port: conn.flow.local_port,
+        iss: conn.iss,
+    }
+}
+
+// Adds those of a connection.
+fn push_conn(
+    replies: &[Reply],
+    group: GroupId,
+    order: usize,
+    conn: &ConnEnd,
+    lines: &mut Vec<Line>,
+) -> Result<(), NoMemory>
+    requires order { IsSortedByKey key_of key_cmp replies.now }
+    requires few { length replies.now < 2 ^ 32 }
+    requires place { order < 2 ^ 63 }
+    ensures { OnOk result (lines.new.items ≡ lines.old.items ++ conn_lines replies.now group.0 order conn.now) }
+{
+    lines.push(Line::Conn {
+        order: order as u64,
+        opening: opening_of(group, conn),
+    })?;
+    let ends = conn.ends.as_slice();
+    push_journal(
+        replies,
+        group,
+        order + 1,
+        ends,
+        conn.journal.as_slice(),
+        lines,
+    )?;
+    lines.push(Line::Left(conn.left))?;
+    lines.push(Line::Answer {
+        wrote: conn.wrote,
+        taken: conn.taken,
+    })?;
+    Ok(())
+}
+
+// Adds those of the connections of a group.
+#[tactic(auto, using(ix_playdef::proofs::Placed::steps))]
+fn push_group(
+    replies: &[Reply],
+    group: GroupId,
+    conns: &[ConnEnd],
+    lines: &mut Vec<Line>,
+) -> Result<(), NoMemory>
+    requires order { IsSortedByKey key_of key_cmp replies.now }
+    requires few { length replies.now < 2 ^ 32 }
+    ensures { OnOk result (lines.new.items ≡ lines.old.items ++ placed (conn_lines replies.now group.0) 0 conns.now) }
+{
+    for i in 0..conns.len() {
+        push_conn(replies, group, i, &conns[i], lines)?;
+    }
+    Ok(())
+}
+
+// Adds those of all groups.
+#[tactic(auto, using(ix_playdef::proofs::Placed::steps))]
+fn push_groups(
+    replies: &[Reply],
+    groups: &[GroupRecord],
+    lines: &mut Vec<Line>,
+) -> Result<(), NoMemory>
+    requires order { IsSortedByKey key_of key_cmp replies.now }
+    requires few { length replies.now < 2 ^ 32 }
+    requires groups { length groups.now ≤ 512 }
+    ensures { OnOk result (lines.new.items ≡ lines.old.items ++ placed (group_lines replies.now) 0 groups.now) }
+{
+    for i in 0..groups.len() {
+        push_group(
+            replies,
+            GroupId(i as u16),
+            groups[i].conns.as_slice(),
+            lines,
+        )?;
+    }
+    Ok(())
+}
+
+// Adds those of the strays.
+fn push_strays(strays: &[StrayLine], lines: &mut Vec<Line>) -> Result<(), NoMemory>
+    ensures { OnOk result (lines.new.items ≡ lines.old.items ++ map kinds.Stray strays.now) }
+{
+    for i in 0..strays.len() {
+        lines.push(Line::Stray(strays[i]))?;
+    }
+    Ok(())
+}
+
+/// The lines behind the head of a report's short text.
+pub fn lines_of(alloc: Global, report: &Report) -> Result<Vec<Line>, NoMemory>
+    requires order { IsSortedByKey key_of key_cmp report.now.replies }
+    requires few { length report.now.replies < 2 ^ 32 }
+    requires groups { length report.now.groups ≤ 512 }
+    ensures { IfOk result (λ lines. lines.items ≡ lines_of report.now) }
+{
+    let mut lines = Vec::new(alloc);
+    let replies = report.replies.as_slice();
+    push_strays(report.strays.as_slice(), &mut lines)?;
+    push_groups(replies, report.groups.as_slice(), &mut lines)?;
+    lines.push(Line::End {
+        replies: replies.len() as u32,
+        drops: report.drops,
+    })?;
+    Ok(lines)
+}
