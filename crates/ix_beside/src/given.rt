@@ -30,8 +30,8 @@ pub(crate) fn place_of(w: WireNo) -> u16
 /// The events that are the end of the stream, or those that are not.
 fn push_told(verdict: &Verdict, ends: bool, given: &mut List<Given>) -> Result<(), NoMemory> {
     for event in verdict.told.as_slice() {
-        if (event.told == Told::RecvEnd) == ends {
-            given.push(Given::Told(event.told))?;
+        if (*event == Told::RecvEnd) == ends {
+            given.push(Given::Told(*event))?;
         }
     }
     Ok(())

@@ -151,9 +151,10 @@ pub enum Input {
 }
 
 /// What an application is told.
-#[derive(Clone, Copy, Debug, PartialEq, Eq)]
+#[derive(Clone, Copy, Debug, Default, PartialEq, Eq)]
 pub enum Told {
     /// A peer opened this connection.
+    #[default]
     Knock,
     /// The connection that the application asked for stands.
     ConnectedUp,

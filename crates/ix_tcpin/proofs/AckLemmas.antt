@@ -26,7 +26,6 @@ use Rattle.ix_tcpdef.specs.declared.types.Told.{Told}
 use Rattle.ix_tcpdef.specs.declared.types.Told.TheVariants as told
 use Rattle.ix_tcb.specs.Stands.{tcb_of, HasOpened}
 use Rattle.ix_tcb.proofs.NumberLemmas.{finds_position}
-use Rattle.ix_tcpin.specs.declared.verdict.Event.{Event}
 use Rattle.ix_tcpin.specs.Heads.{ack_head, reset_head}
 use Rattle.ix_tcpin.specs.Work as at_work
 use Rattle.ix_tcpin.specs.Work.{Work, work, Course, Onward, Done, along, work_of, replies, announces, ends}
@@ -38,7 +37,7 @@ use Rattle.ix_tcpin.proofs.NumberLemmas.{IsFlying, flight_test, flies-acked, sam
 
 -- the segment goes on: what stands for what
 pub record Stays (w : Connection) (k : Work) (j : Job) : Type 0 where
-  pub events : List Event
+  pub events : List Told
   pub is : k ≡ at w j events
   pub agrees : Agrees w j events
 
@@ -62,12 +61,12 @@ acked-established h w una nxt most =
     ap (λ (p : ℕ). min p (length w.sent)) none
 
 -- one more event
-announced : (w : Connection) (j : Job) (es : List Event) (c : Connection) (t : Told) → is_end t ≡ false → Agrees w j es → SameText w c → is_closed c.state ≡ false → Agrees w (gives (on j c) (outputs.Told t)) (es ++ record { told = t } ∷ [])
+announced : (w : Connection) (j : Job) (es : List Told) (c : Connection) (t : Told) → is_end t ≡ false → Agrees w j es → SameText w c → is_closed c.state ≡ false → Agrees w (gives (on j c) (outputs.Told t)) (es ++ t ∷ [])
 announced w j es c t other a same alive =
     record {
       same = same;
-      first = first-more es (record { told = t }) other ∙ ap (λ (l : List Output). l ++ outputs.Told t ∷ []) a.first;
-      last = last-more es (record { told = t }) other ∙ a.last;
+      first = first-more es t other ∙ ap (λ (l : List Output). l ++ outputs.Told t ∷ []) a.first;
+      last = last-more es t other ∙ a.last;
       before = a.before;
       alive = alive;
     }
@@ -75,7 +74,7 @@ announced w j es c t other a same alive =
 same_text : (w v : Connection) → SameText w v → SameText w v
 same_text w v s = record { pieces = s.pieces; held = s.held; rcv = s.rcv; irs = s.irs; accepted = s.accepted }
 
-leads-establishing : (h : SegHead) (w : Connection) (n : WireNo) (seg : Seg) (j : Job) (es : List Event) → Agrees w j es → IsFlying j.connection → j.connection.una ≡ 0 → j.connection.nxt ≡ 1 → h.ack < 2 ^ 32 → Leads (Stays w) (Says w n seg) (establishing_part h (at w j es)) (establishing h j)
+leads-establishing : (h : SegHead) (w : Connection) (n : WireNo) (seg : Seg) (j : Job) (es : List Told) → Agrees w j es → IsFlying j.connection → j.connection.una ≡ 0 → j.connection.nxt ≡ 1 → h.ack < 2 ^ 32 → Leads (Stays w) (Says w n seg) (establishing_part h (at w j es)) (establishing h j)
 unfolding establishing_part establishing
 leads-establishing h w n seg j es a f una nxt fits =
     by_tests (is_past (snd_una j.connection) h.ack) (is_past (snd_nxt j.connection) h.ack) refl refl
@@ -86,15 +85,15 @@ leads-establishing h w n seg j es a f una nxt fits =
     by_tests true false p q =
         let most : j.connection.una + ahead (snd_una j.connection) h.ack ≤ j.connection.nxt = advance_most j.connection.iss j.connection.una j.connection.nxt h.ack f.order f.near p q in
         record {
-          events = es ++ record { told = told.Knock } ∷ [];
-          is = ap (λ (t : Tcb). work t (so_far w (acked_data j.connection - acked_data w) (es ++ record { told = told.Knock } ∷ []))) (same-established h j.connection una nxt fits most)
-              ∙ ap (λ (m : ℕ). work (tcb_of (established h j.connection)) (so_far w (m - acked_data w) (es ++ record { told = told.Knock } ∷ []))) (sym (acked-established h j.connection una nxt most));
+          events = es ++ told.Knock ∷ [];
+          is = ap (λ (t : Tcb). work t (so_far w (acked_data j.connection - acked_data w) (es ++ told.Knock ∷ []))) (same-established h j.connection una nxt fits most)
+              ∙ ap (λ (m : ℕ). work (tcb_of (established h j.connection)) (so_far w (m - acked_data w) (es ++ told.Knock ∷ []))) (sym (acked-established h j.connection una nxt most));
           agrees = announced w j es (established h j.connection) told.Knock refl a (record { pieces = a.same.pieces; held = a.same.held; rcv = a.same.rcv; irs = a.same.irs; accepted = a.same.accepted }) refl;
         }
 
 -- ## Later states
 -- told of bytes that were acknowledged, or of room
-stays-sent : (m : ℕ) (w : Connection) (j : Job) (es : List Event) → Agrees w j es → Stays w (sent_part m (at w j es)) (told_sent m j)
+stays-sent : (m : ℕ) (w : Connection) (j : Job) (es : List Told) → Agrees w j es → Stays w (sent_part m (at w j es)) (told_sent m j)
 unfolding sent_part told_sent
 stays-sent m w j es a = by_tests (nat_lt 0 m || (j.connection.wants && nat_lt 0 (room j.connection))) (j.connection.accepted && not j.connection.shut)
   where
@@ -108,7 +107,7 @@ stays-sent m w j es a = by_tests (nat_lt 0 m || (j.connection.wants && nat_lt 0 
         }
     by_tests true true =
         record {
-          events = es ++ record { told = told.Sent m (room j.connection) } ∷ [];
+          events = es ++ told.Sent m (room j.connection) ∷ [];
           is = refl;
           agrees = announced w j es (record j.connection { wants = false }) (told.Sent m (room j.connection)) refl a (record { pieces = a.same.pieces; held = a.same.held; rcv = a.same.rcv; irs = a.same.irs; accepted = a.same.accepted }) a.alive;
         }
@@ -121,10 +120,10 @@ flies-sent m j f =
     (λ _. f)
 
 -- the own FIN is acknowledged
-stays-state : (w : Connection) (j : Job) (es : List Event) (c : Connection) → Agrees w j es → SameText w c → is_closed c.state ≡ false → Agrees w (on j c) es
+stays-state : (w : Connection) (j : Job) (es : List Told) (c : Connection) → Agrees w j es → SameText w c → is_closed c.state ≡ false → Agrees w (on j c) es
 stays-state w j es c a same alive = record { same = same; first = a.first; last = a.last; before = a.before; alive = alive }
 
-leads-fin_acked_in : (s : State) (cfg : Cfg) (now : ℕ) (w : Connection) (n : WireNo) (seg : Seg) (j : Job) (es : List Event) → Agrees w j es → Leads (Stays w) (Says w n seg) (fin_acked_part_in s cfg now (at w j es)) (fin_acked_in s cfg now j)
+leads-fin_acked_in : (s : State) (cfg : Cfg) (now : ℕ) (w : Connection) (n : WireNo) (seg : Seg) (j : Job) (es : List Told) → Agrees w j es → Leads (Stays w) (Says w n seg) (fin_acked_part_in s cfg now (at w j es)) (fin_acked_in s cfg now j)
 leads-fin_acked_in st.FinWait1 cfg now w n seg j es a =
     record { events = es; is = refl; agrees = stays-state w j es (record j.connection { state = st.FinWait2 }) a (record { pieces = a.same.pieces; held = a.same.held; rcv = a.same.rcv; irs = a.same.irs; accepted = a.same.accepted }) refl }
 leads-fin_acked_in st.Closing cfg now w n seg j es a =
@@ -132,7 +131,7 @@ leads-fin_acked_in st.Closing cfg now w n seg j es a =
 leads-fin_acked_in st.LastAck cfg now w n seg j es a = says-ended w n seg j es es j.outputs a a.first a.last
 leads-fin_acked_in _ cfg now w n seg j es a = record { events = es; is = refl; agrees = a }
 
-leads-fin_acked : (cfg : Cfg) (now : ℕ) (w : Connection) (n : WireNo) (seg : Seg) (j : Job) (es : List Event) → Agrees w j es → IsFlying j.connection → Leads (Stays w) (Says w n seg) (fin_acked_part cfg now (at w j es)) (fin_acked cfg now j)
+leads-fin_acked : (cfg : Cfg) (now : ℕ) (w : Connection) (n : WireNo) (seg : Seg) (j : Job) (es : List Told) → Agrees w j es → IsFlying j.connection → Leads (Stays w) (Says w n seg) (fin_acked_part cfg now (at w j es)) (fin_acked cfg now j)
 unfolding fin_acked_part fin_acked
 leads-fin_acked cfg now w n seg j es a f = rw (flight_test j.connection f) (by_test (j.connection.fin_sent && (j.connection.una == j.connection.nxt)))
   where
@@ -183,7 +182,7 @@ keeps-acked : (cfg : Cfg) (h : SegHead) (now : ℕ) (w : Connection) → KeepsTe
 keeps-acked cfg h now w =
     keeps-then _ _ _ (keeps-duplicated h w) (keeps-then _ _ _ (keeps-advanced cfg h now (duplicated h w)) (keeps-windowed h (snd_una w) (advanced cfg h now (duplicated h w))))
 
-leads-synchronized : (cfg : Cfg) (h : SegHead) (now : ℕ) (w : Connection) (n : WireNo) (seg : Seg) (j : Job) (es : List Event) → Agrees w j es → acked_data j.connection ≡ acked_data w → IsFlying j.connection → 1 ≤ j.connection.una → h.ack < 2 ^ 32 → Leads (Stays w) (Says w n seg) (synchronized_part cfg h now (at w j es)) (synchronized cfg h now j)
+leads-synchronized : (cfg : Cfg) (h : SegHead) (now : ℕ) (w : Connection) (n : WireNo) (seg : Seg) (j : Job) (es : List Told) → Agrees w j es → acked_data j.connection ≡ acked_data w → IsFlying j.connection → 1 ≤ j.connection.una → h.ack < 2 ^ 32 → Leads (Stays w) (Says w n seg) (synchronized_part cfg h now (at w j es)) (synchronized cfg h now j)
 unfolding synchronized_part synchronized too_far_part too_far
 leads-synchronized cfg h now w n seg j es a even f least fits = by_test (is_past (snd_nxt j.connection) h.ack) refl
   where
@@ -205,7 +204,7 @@ leads-synchronized cfg h now w n seg j es a even f least fits = by_test (is_past
         leads-stays cfg now w n seg _ _ stays (flies-sent m (on j c) (flies-acked cfg h now j.connection f p))
 
 -- ## By the state
-leads-acknowledgement_in : (s : State) (cfg : Cfg) (h : SegHead) (now : ℕ) (w : Connection) (n : WireNo) (seg : Seg) (j : Job) (es : List Event) → j.connection.state ≡ s → is_checked s ≡ true → Agrees w j es → acked_data j.connection ≡ acked_data w → IsKept cfg j.connection → HasOpened j.connection → h.ack < 2 ^ 32 → Leads (Stays w) (Says w n seg) (if is_syn_received s then establishing_part h (at w j es) else synchronized_part cfg h now (at w j es)) (if is_syn_received s then establishing h j else synchronized cfg h now j)
+leads-acknowledgement_in : (s : State) (cfg : Cfg) (h : SegHead) (now : ℕ) (w : Connection) (n : WireNo) (seg : Seg) (j : Job) (es : List Told) → j.connection.state ≡ s → is_checked s ≡ true → Agrees w j es → acked_data j.connection ≡ acked_data w → IsKept cfg j.connection → HasOpened j.connection → h.ack < 2 ^ 32 → Leads (Stays w) (Says w n seg) (if is_syn_received s then establishing_part h (at w j es) else synchronized_part cfg h now (at w j es)) (if is_syn_received s then establishing h j else synchronized cfg h now j)
 leads-acknowledgement_in st.Listen cfg h now w n seg j es is checked a even k opened fits = cc
 leads-acknowledgement_in st.SynSent cfg h now w n seg j es is checked a even k opened fits = cc
 leads-acknowledgement_in st.Closed cfg h now w n seg j es is checked a even k opened fits = cc
@@ -215,7 +214,7 @@ leads-acknowledgement_in st.SynReceived cfg h now w n seg j es is checked a even
 leads-acknowledgement_in _ cfg h now w n seg j es is checked a even k opened fits =
     leads-synchronized cfg h now w n seg j es a even (flying cfg j.connection k) (k.sound.sender.stream (ap carries is)) fits
 
-pub leads-acknowledgement : (cfg : Cfg) (h : SegHead) (now : ℕ) (w : Connection) (n : WireNo) (seg : Seg) (j : Job) (es : List Event) → is_checked j.connection.state ≡ true → Agrees w j es → acked_data j.connection ≡ acked_data w → IsKept cfg j.connection → HasOpened j.connection → h.ack < 2 ^ 32 → Leads (Stays w) (Says w n seg) (acknowledgement_part cfg h now (at w j es)) (acknowledgement cfg h now j)
+pub leads-acknowledgement : (cfg : Cfg) (h : SegHead) (now : ℕ) (w : Connection) (n : WireNo) (seg : Seg) (j : Job) (es : List Told) → is_checked j.connection.state ≡ true → Agrees w j es → acked_data j.connection ≡ acked_data w → IsKept cfg j.connection → HasOpened j.connection → h.ack < 2 ^ 32 → Leads (Stays w) (Says w n seg) (acknowledgement_part cfg h now (at w j es)) (acknowledgement cfg h now j)
 unfolding acknowledgement_part acknowledgement
 leads-acknowledgement cfg h now w n seg j es checked a even k opened fits =
     leads-acknowledgement_in j.connection.state cfg h now w n seg j es refl checked a even k opened fits

@@ -13,10 +13,10 @@ use Rattle.ix_tcpdef.specs.declared.types.Connection.{Connection}
 use Rattle.ix_tcpdef.specs.declared.types.Job.{Job}
 use Rattle.ix_tcpdef.specs.declared.types.Output.{Output}
 use Rattle.ix_tcpdef.specs.declared.types.Output.TheVariants as outputs
+use Rattle.ix_tcpdef.specs.declared.types.Told.{Told}
 use Rattle.ix_tcpdef.specs.declared.types.Told.TheVariants as told
 use Rattle.ix_tcpdef.specs.declared.types.TheConstants.{ACK, FIN, RST, SYN}
 use Rattle.ix_tcb.specs.Stands.{tcb_of}
-use Rattle.ix_tcpin.specs.declared.verdict.Event.{Event}
 use Rattle.ix_tcpin.specs.Heads.{ack_head}
 use Rattle.ix_tcpin.specs.Work as at_work
 use Rattle.ix_tcpin.specs.Work.{Onward, Done, replies, ends}
@@ -24,10 +24,10 @@ use Rattle.ix_tcpin.specs.Checks.{acceptability_part, reset_part, synchronize_pa
 use Rattle.ix_tcpin.proofs.Relation.{at, Agrees, Says, Leads, IsSame, first-more, last-more, says-answered, says-nothing, says-ended}
 
 -- an acknowledgement is sent at once
-pub says-ack : (cfg : Cfg) (w : Connection) (n : WireNo) (seg : Seg) (j : Job) (es : List Event) → Agrees w j es → Says w n seg (replies (at w j es) (ack_head cfg (tcb_of j.connection))) (gives j (ack_frame cfg j.connection))
+pub says-ack : (cfg : Cfg) (w : Connection) (n : WireNo) (seg : Seg) (j : Job) (es : List Told) → Agrees w j es → Says w n seg (replies (at w j es) (ack_head cfg (tcb_of j.connection))) (gives j (ack_frame cfg j.connection))
 says-ack cfg w n seg j es a = says-answered w n seg j es j.connection (Some (ack_head cfg (tcb_of j.connection))) a a.same a.alive refl
 
-pub leads-acceptability : (cfg : Cfg) (h : SegHead) (now : ℕ) (w : Connection) (n : WireNo) (seg : Seg) (j : Job) (es : List Event) → Agrees w j es → Leads (IsSame (at w j es) j) (Says w n seg) (acceptability_part cfg h now (at w j es)) (acceptability cfg h now j)
+pub leads-acceptability : (cfg : Cfg) (h : SegHead) (now : ℕ) (w : Connection) (n : WireNo) (seg : Seg) (j : Job) (es : List Told) → Agrees w j es → Leads (IsSame (at w j es) j) (Says w n seg) (acceptability_part cfg h now (at w j es)) (acceptability cfg h now j)
 unfolding acceptability_part acceptability
 leads-acceptability cfg h now w n seg j es a =
     by_tests (is_acceptable (span h) (rcv_wnd cfg j.connection) (seq_of j.connection h)) (has_flag h.flags RST) (has_flag h.flags FIN && is_time_wait j.connection.state)
@@ -42,7 +42,7 @@ leads-acceptability cfg h now w n seg j es a =
         says-answered w n seg j es (record j.connection { deadline = Some (later now cfg.time_wait) }) (Some (ack_head cfg (tcb_of j.connection))) a (record { pieces = a.same.pieces; held = a.same.held; rcv = a.same.rcv; irs = a.same.irs; accepted = a.same.accepted }) a.alive refl
     by_tests false false false = says-ack cfg w n seg j es a
 
-pub leads-reset : (cfg : Cfg) (h : SegHead) (w : Connection) (n : WireNo) (seg : Seg) (j : Job) (es : List Event) → Agrees w j es → Leads (IsSame (at w j es) j) (Says w n seg) (reset_part cfg h (at w j es)) (reset cfg h j)
+pub leads-reset : (cfg : Cfg) (h : SegHead) (w : Connection) (n : WireNo) (seg : Seg) (j : Job) (es : List Told) → Agrees w j es → Leads (IsSame (at w j es) j) (Says w n seg) (reset_part cfg h (at w j es)) (reset cfg h j)
 unfolding reset_part reset
 leads-reset cfg h w n seg j es a = by_tests (has_flag h.flags RST) (h.seq == rcv_nxt j.connection) (j.connection.accepted && not j.connection.shut)
   where
@@ -50,10 +50,10 @@ leads-reset cfg h w n seg j es a = by_tests (has_flag h.flags RST) (h.seq == rcv
     by_tests false b c = record { work = refl; job = refl }
     by_tests true false c = says-ack cfg w n seg j es a
     by_tests true true true =
-        says-ended w n seg j es (es ++ record { told = told.DeadReset } ∷ []) (j.outputs ++ outputs.Told told.DeadReset ∷ []) a (first-more es (record { told = told.DeadReset }) refl ∙ ap (λ (l : List Output). l ++ outputs.Told told.DeadReset ∷ []) a.first) (last-more es (record { told = told.DeadReset }) refl ∙ a.last)
+        says-ended w n seg j es (es ++ told.DeadReset ∷ []) (j.outputs ++ outputs.Told told.DeadReset ∷ []) a (first-more es told.DeadReset refl ∙ ap (λ (l : List Output). l ++ outputs.Told told.DeadReset ∷ []) a.first) (last-more es told.DeadReset refl ∙ a.last)
     by_tests true true false = says-ended w n seg j es es j.outputs a a.first a.last
 
-pub leads-synchronize : (cfg : Cfg) (h : SegHead) (w : Connection) (n : WireNo) (seg : Seg) (j : Job) (es : List Event) → Agrees w j es → Leads (IsSame (at w j es) j) (Says w n seg) (synchronize_part cfg h (at w j es)) (synchronize cfg h j)
+pub leads-synchronize : (cfg : Cfg) (h : SegHead) (w : Connection) (n : WireNo) (seg : Seg) (j : Job) (es : List Told) → Agrees w j es → Leads (IsSame (at w j es) j) (Says w n seg) (synchronize_part cfg h (at w j es)) (synchronize cfg h j)
 unfolding synchronize_part synchronize
 leads-synchronize cfg h w n seg j es a = by_tests (has_flag h.flags SYN) (is_syn_received j.connection.state)
   where
@@ -62,7 +62,7 @@ leads-synchronize cfg h w n seg j es a = by_tests (has_flag h.flags SYN) (is_syn
     by_tests true true = says-ended w n seg j es es j.outputs a a.first a.last
     by_tests true false = says-ack cfg w n seg j es a
 
-pub leads-unacknowledged : (h : SegHead) (w : Connection) (n : WireNo) (seg : Seg) (j : Job) (es : List Event) → Agrees w j es → Leads (IsSame (at w j es) j) (Says w n seg) (unacknowledged_part h (at w j es)) (unacknowledged h j)
+pub leads-unacknowledged : (h : SegHead) (w : Connection) (n : WireNo) (seg : Seg) (j : Job) (es : List Told) → Agrees w j es → Leads (IsSame (at w j es) j) (Says w n seg) (unacknowledged_part h (at w j es)) (unacknowledged h j)
 unfolding unacknowledged_part unacknowledged
 leads-unacknowledged h w n seg j es a = by_test (has_flag h.flags ACK)
   where

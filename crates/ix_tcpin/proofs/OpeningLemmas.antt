@@ -69,7 +69,7 @@ same-connected cfg h w first held =
 says-connected : (cfg : Cfg) (w : Connection) (n : WireNo) (seg : Seg) → w.una ≤ 1 → w.held ≡ [] → Says w n seg (announces (at_work.on (at w (start w) []) (connected_numbers cfg seg.head (tcb_of w))) told.ConnectedUp) (gives (on (start w) (connected cfg seg.head w)) (outputs.Told told.ConnectedUp))
 says-connected cfg w n seg first held =
     let c : Connection = connected cfg seg.head w in
-    let v : Verdict = record (so_far w (acked_data w - acked_data w) []) { told = record { items = record { told = told.ConnectedUp } ∷ [] } } in
+    let v : Verdict = record (so_far w (acked_data w - acked_data w) []) { told = record { items = told.ConnectedUp ∷ [] } } in
     let count : acked_data w - acked_data w ≡ acked_data c - acked_data w = omega arith in
     subst (λ t. Says w n seg (work t v) (gives (on (start w) c) (outputs.Told told.ConnectedUp))) (sym (same-connected cfg seg.head w first held))
     (said w n seg c v (outputs.Told told.ConnectedUp ∷ []) refl (keep-pieces w.accepted w.irs w.held) (keep-held w.irs w.held) refl refl refl count (lives w c refl))
@@ -91,7 +91,7 @@ says-syn_sent cfg w n seg is k =
     by_tests : (b c d e : Bool) → Says w n seg (if b && c then (if d then at w (start w) [] else replies (at w (start w) []) (reset_head (tcb_of w) seg.head)) else if d then (if b then announces (ends (at w (start w) [])) told.ConnectedRefused else at w (start w) []) else if e && b then announces (at_work.on (at w (start w) []) (connected_numbers cfg seg.head (tcb_of w))) told.ConnectedUp else at w (start w) []) (if b && c then (if d then start w else gives (start w) (reset_frame w seg.head)) else if d then (if b then gives (on (start w) (ended w)) (outputs.Told told.ConnectedRefused) else start w) else if e && b then gives (on (start w) (connected cfg seg.head w)) (outputs.Told told.ConnectedUp) else start w)
     by_tests true true true e = says-nothing w n seg (start w) [] a
     by_tests true true false e = says-answered w n seg (start w) [] w (Some (reset_head (tcb_of w) seg.head)) a a.same a.alive refl
-    by_tests true false true e = says-ended w n seg (start w) [] (record { told = told.ConnectedRefused } ∷ []) (outputs.Told told.ConnectedRefused ∷ []) a refl refl
+    by_tests true false true e = says-ended w n seg (start w) [] (told.ConnectedRefused ∷ []) (outputs.Told told.ConnectedRefused ∷ []) a refl refl
     by_tests true false false true = says-connected cfg w n seg first (k.sound.untouched (ap is_unknown is))
     by_tests true false false false = says-nothing w n seg (start w) [] a
     by_tests false c true e = says-nothing w n seg (start w) [] a

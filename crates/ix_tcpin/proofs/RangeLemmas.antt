@@ -19,7 +19,6 @@ use Rattle.ix_tcpdef.specs.declared.types.Told.{Told}
 use Rattle.ix_tcpdef.specs.declared.types.Told.TheVariants as told
 use Rattle.ix_tcpdef.specs.declared.types.TheConstants.{ACK, FIN, RST, SYN}
 use Rattle.ix_tcpin.specs.declared.text.Octets.{Octets}
-use Rattle.ix_tcpin.specs.declared.verdict.Event.{Event}
 use Rattle.ix_tcpin.specs.declared.verdict.HeldUse.{HeldUse}
 use Rattle.ix_tcpin.specs.declared.verdict.HeldUse.TheVariants as uses
 use Rattle.ix_tcpin.specs.declared.verdict.Take.TheVariants as takes
@@ -45,7 +44,7 @@ dropped-uses (s ∷ ss) (uses.Keep ∷ us) u = (tt, dropped-uses ss us u.1)
 dropped-uses (s ∷ ss) (uses.Deliver from ∷ us) u = (u.0, dropped-uses ss us u.1)
 dropped-uses (s ∷ ss) (uses.Drop ∷ us) u = (tt, dropped-uses ss us u.1)
 
-no-part : (es : List Event) (t : Told) → is_part t ≡ false → AreNoParts es → AreNoParts (es ++ record { told = t } ∷ [])
+no-part : (es : List Told) (t : Told) → is_part t ≡ false → AreNoParts es → AreNoParts (es ++ t ∷ [])
 no-part [] t other n = (other, tt)
 no-part (e ∷ es) t other n = (n.0, no-part es t other n.1)
 

@@ -13,8 +13,8 @@ use Rattle.ix_tcpdef.specs.declared.types.Job.{Job}
 use Rattle.ix_tcpdef.specs.declared.types.Output.{Output}
 use Rattle.ix_tcpdef.specs.declared.types.Output.TheVariants as outputs
 use Rattle.ix_tcpdef.specs.declared.types.Piece.{Piece}
+use Rattle.ix_tcpdef.specs.declared.types.Told.{Told}
 use Rattle.ix_tcb.specs.Stands.{tcb_of, head_of}
-use Rattle.ix_tcpin.specs.declared.verdict.Event.{Event}
 use Rattle.ix_tcpin.specs.declared.verdict.HeldUse.{HeldUse}
 use Rattle.ix_tcpin.specs.declared.verdict.HeldUse.TheVariants as uses
 use Rattle.ix_tcpin.specs.declared.verdict.Take.TheVariants as takes
@@ -24,11 +24,11 @@ use Rattle.ix_tcpin.specs.Verdict.{held_pieces, kept_held, pieces_of, held_of, i
 
 -- ## While the body is not looked at
 -- the verdict so far: nothing is made of the body, and what is held stays so
-abbrev pub so_far : Connection → ℕ → List Event → Verdict
+abbrev pub so_far : Connection → ℕ → List Told → Verdict
 so_far w acked es =
     record { reply = None; take = takes.Nothing; held = record { items = map keep (map (head_of w.irs) w.held) }; acked = acked; told = record { items = es }; ended = false }
 
-abbrev pub at : Connection → Job → List Event → Work
+abbrev pub at : Connection → Job → List Told → Work
 at w j es = work (tcb_of j.connection) (so_far w (acked_data j.connection - acked_data w) es)
 
 -- what only the body and the FIN change
@@ -40,7 +40,7 @@ pub record SameText (w v : Connection) : Type 0 where
   pub accepted : v.accepted ≡ w.accepted
 
 -- the segment goes on; w: the connection before it; es: what was told
-pub record Agrees (w : Connection) (j : Job) (es : List Event) : Type 0 where
+pub record Agrees (w : Connection) (j : Job) (es : List Told) : Type 0 where
   pub same : SameText w j.connection
   pub first : first_told es ≡ j.outputs
   pub last : last_told es ≡ []
@@ -108,19 +108,19 @@ dropped-held (s ∷ ss) (uses.Deliver from ∷ us) = dropped-held ss us
 dropped-held (s ∷ ss) (uses.Drop ∷ us) = dropped-held ss us
 
 -- ## What is told
-pub first-more : (es : List Event) (e : Event) → is_end e.told ≡ false → first_told (es ++ e ∷ []) ≡ first_told es ++ outputs.Told e.told ∷ []
+pub first-more : (es : List Told) (e : Told) → is_end e ≡ false → first_told (es ++ e ∷ []) ≡ first_told es ++ outputs.Told e ∷ []
 first-more [] e other = rw other refl
 first-more (d ∷ es) e other =
-    elim (cases_Bool (is_end d.told)) [
+    elim (cases_Bool (is_end d)) [
       | inl last ↦ rw last (first-more es e other)
-      | inr before ↦ rw before (ap (λ (l : List Output). outputs.Told d.told ∷ l) (first-more es e other))
+      | inr before ↦ rw before (ap (λ (l : List Output). outputs.Told d ∷ l) (first-more es e other))
     ]
 
-pub last-more : (es : List Event) (e : Event) → is_end e.told ≡ false → last_told (es ++ e ∷ []) ≡ last_told es
+pub last-more : (es : List Told) (e : Told) → is_end e ≡ false → last_told (es ++ e ∷ []) ≡ last_told es
 last-more [] e other = rw other refl
 last-more (d ∷ es) e other =
-    elim (cases_Bool (is_end d.told)) [
-      | inl last ↦ rw last (ap (λ (l : List Output). outputs.Told d.told ∷ l) (last-more es e other))
+    elim (cases_Bool (is_end d)) [
+      | inl last ↦ rw last (ap (λ (l : List Output). outputs.Told d ∷ l) (last-more es e other))
       | inr before ↦ rw before (last-more es e other)
     ]
 
@@ -144,18 +144,18 @@ lives w c alive = rw alive (by_test (not (is_closed w.state)))
     by_test false = refl
 
 -- it is answered, or is not
-pub says-answered : (w : Connection) (n : WireNo) (seg : Seg) (j : Job) (es : List Event) (c : Connection) (o : Option SegHead) → Agrees w j es → SameText w c → is_closed c.state ≡ false → acked_data c ≡ acked_data j.connection → Says w n seg (work (tcb_of c) (record (so_far w (acked_data j.connection - acked_data w) es) { reply = o })) (record { connection = c; outputs = j.outputs ++ reply_of o })
+pub says-answered : (w : Connection) (n : WireNo) (seg : Seg) (j : Job) (es : List Told) (c : Connection) (o : Option SegHead) → Agrees w j es → SameText w c → is_closed c.state ≡ false → acked_data c ≡ acked_data j.connection → Says w n seg (work (tcb_of c) (record (so_far w (acked_data j.connection - acked_data w) es) { reply = o })) (record { connection = c; outputs = j.outputs ++ reply_of o })
 says-answered w n seg j es c o a same alive acked =
     said w n seg c (record (so_far w (acked_data j.connection - acked_data w) es) { reply = o }) j.outputs refl (keep-pieces w.accepted w.irs w.held) (keep-held w.irs w.held ∙ sym same.held) a.first a.last same.pieces (ap (λ n. n - acked_data w) (sym acked)) (lives w c alive)
 
 -- nothing more comes of it
-pub says-nothing : (w : Connection) (n : WireNo) (seg : Seg) (j : Job) (es : List Event) → Agrees w j es → Says w n seg (at w j es) j
+pub says-nothing : (w : Connection) (n : WireNo) (seg : Seg) (j : Job) (es : List Told) → Agrees w j es → Says w n seg (at w j es) j
 says-nothing w n seg j es a =
     subst (λ (os : List Output). Says w n seg (at w j es) (record { connection = j.connection; outputs = os })) (append-nil j.outputs)
     (says-answered w n seg j es j.connection None a a.same a.alive refl)
 
 -- it ends the connection
-pub says-ended : (w : Connection) (n : WireNo) (seg : Seg) (j : Job) (es ds : List Event) (os : List Output) → Agrees w j es → first_told ds ≡ os → last_told ds ≡ [] → Says w n seg (work (closed (tcb_of j.connection)) (record (let_go (so_far w (acked_data j.connection - acked_data w) ds)) { ended = true })) (record { connection = ended j.connection; outputs = os })
+pub says-ended : (w : Connection) (n : WireNo) (seg : Seg) (j : Job) (es ds : List Told) (os : List Output) → Agrees w j es → first_told ds ≡ os → last_told ds ≡ [] → Says w n seg (work (closed (tcb_of j.connection)) (record (let_go (so_far w (acked_data j.connection - acked_data w) ds)) { ended = true })) (record { connection = ended j.connection; outputs = os })
 says-ended w n seg j es ds os a first last =
     subst (λ (l : List Output). Says w n seg (work (closed (tcb_of j.connection)) (record (let_go (so_far w (acked_data j.connection - acked_data w) ds)) { ended = true })) (record { connection = ended j.connection; outputs = l })) (append-nil os)
     (said w n seg (ended j.connection) (record (let_go (so_far w (acked_data j.connection - acked_data w) ds)) { ended = true }) os refl (dropped-pieces w.accepted w.held (map keep (map (head_of w.irs) w.held)) ∙ keep-pieces w.accepted w.irs w.held) (dropped-held w.held (map keep (map (head_of w.irs) w.held))) first last a.same.pieces refl (rw a.before refl))

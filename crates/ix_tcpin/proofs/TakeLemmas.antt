@@ -28,7 +28,6 @@ use Rattle.ix_tcpdef.specs.declared.types.Told.TheVariants as told
 use Rattle.ix_tcpdef.specs.declared.types.TheConstants.{ACK, FIN, RST, SYN}
 use Rattle.ix_tcb.specs.Stands.{tcb_of, head_of, HasOpened}
 use Rattle.ix_tcpin.specs.declared.text.Octets.{Octets as Places}
-use Rattle.ix_tcpin.specs.declared.verdict.Event.{Event}
 use Rattle.ix_tcpin.specs.declared.verdict.Take.{Take}
 use Rattle.ix_tcpin.specs.declared.verdict.Take.TheVariants as takes
 use Rattle.ix_tcpin.specs.declared.verdict.Verdict.{Verdict}
@@ -137,7 +136,7 @@ record AtPlaces (p : Places) (o : Octets) (from : ℕ) : Type 0 where
   from_is : from ≡ p.from
   to_is : from + length o.bytes ≡ p.to
 
-taken-waiting : (cfg : Cfg) (w : Connection) (seg : Seg) (j : Job) (es : List Event) (p : Places) (o : Octets) (fin : Bool) → cfg.window < 2 ^ 16 → IsKept cfg j.connection → IsCut (rcv_wnd cfg j.connection) j.connection.rcv (past_of (seq_of j.connection seg.head)) seg p o → (waiting_part p fin (at w j es)).verdict.take ≡ (if is_held o j.connection then takes.Hold p.from p.to else takes.Nothing)
+taken-waiting : (cfg : Cfg) (w : Connection) (seg : Seg) (j : Job) (es : List Told) (p : Places) (o : Octets) (fin : Bool) → cfg.window < 2 ^ 16 → IsKept cfg j.connection → IsCut (rcv_wnd cfg j.connection) j.connection.rcv (past_of (seq_of j.connection seg.head)) seg p o → (waiting_part p fin (at w j es)).verdict.take ≡ (if is_held o j.connection then takes.Hold p.from p.to else takes.Nothing)
 unfolding waiting_part
 taken-waiting cfg w seg j es p o fin window k cut =
     let c : Connection = j.connection in
@@ -150,7 +149,7 @@ taken-waiting cfg w seg j es p o fin window k cut =
           rw (full_then, full) refl
     ]
 
-taken-octets : (cfg : Cfg) (w : Connection) (seg : Seg) (j : Job) (es : List Event) (p : Places) (o : Octets) (from : ℕ) (fin : Bool) → cfg.window < 2 ^ 16 → IsKept cfg j.connection → IsCut (rcv_wnd cfg j.connection) j.connection.rcv (past_of (seq_of j.connection seg.head)) seg p o → AtPlaces p o from → (if p.to == p.from then texted (at w j es) (stands_next seg.head (tcb_of j.connection)) else received_part cfg p fin (at w j es)).work.verdict.take ≡ octets_taken o from j.connection
+taken-octets : (cfg : Cfg) (w : Connection) (seg : Seg) (j : Job) (es : List Told) (p : Places) (o : Octets) (from : ℕ) (fin : Bool) → cfg.window < 2 ^ 16 → IsKept cfg j.connection → IsCut (rcv_wnd cfg j.connection) j.connection.rcv (past_of (seq_of j.connection seg.head)) seg p o → AtPlaces p o from → (if p.to == p.from then texted (at w j es) (stands_next seg.head (tcb_of j.connection)) else received_part cfg p fin (at w j es)).work.verdict.take ≡ octets_taken o from j.connection
 unfolding received_part
 taken-octets cfg w seg j es p o from fin window k cut places =
     let c : Connection = j.connection in
@@ -171,7 +170,7 @@ taken-octets cfg w seg j es p o from fin window k cut places =
           ])
     ]
 
-taken-body : (cfg : Cfg) (w : Connection) (seg : Seg) (j : Job) (es : List Event) → cfg.window < 2 ^ 16 → IsFramed seg → IsKept cfg j.connection → (body_part cfg seg.head (at w j es)).work.verdict.take ≡ body_taken cfg seg j.connection
+taken-body : (cfg : Cfg) (w : Connection) (seg : Seg) (j : Job) (es : List Told) → cfg.window < 2 ^ 16 → IsFramed seg → IsKept cfg j.connection → (body_part cfg seg.head (at w j es)).work.verdict.take ≡ body_taken cfg seg j.connection
 unfolding body_part
 taken-body cfg w seg j es window framed k =
     let c : Connection = j.connection in
@@ -185,7 +184,7 @@ taken-body cfg w seg j es window framed k =
       | inr not_taken ↦ rw not_taken refl
     ]
 
-taken-text : (cfg : Cfg) (now : ℕ) (w : Connection) (seg : Seg) (j : Job) (es : List Event) → cfg.window < 2 ^ 16 → IsFramed seg → IsKept cfg j.connection → (text_part cfg seg.head now (at w j es)).verdict.take ≡ body_taken cfg seg j.connection
+taken-text : (cfg : Cfg) (now : ℕ) (w : Connection) (seg : Seg) (j : Job) (es : List Told) → cfg.window < 2 ^ 16 → IsFramed seg → IsKept cfg j.connection → (text_part cfg seg.head now (at w j es)).verdict.take ≡ body_taken cfg seg j.connection
 unfolding text_part
 taken-text cfg now w seg j es window framed k =
     take-finished cfg seg.head now (body_part cfg seg.head (at w j es)) ∙ taken-body cfg w seg j es window framed k

@@ -26,12 +26,12 @@ use Rattle.ix_tcpdef.specs.declared.types.Output.{Output}
 use Rattle.ix_tcpdef.specs.declared.types.Output.TheVariants as outputs
 use Rattle.ix_tcpdef.specs.declared.types.Piece.{Piece}
 use Rattle.ix_tcpdef.specs.declared.types.Tcb.{Tcb}
+use Rattle.ix_tcpdef.specs.declared.types.Told.{Told}
 use Rattle.ix_tcpdef.specs.declared.types.Told.TheVariants as told
 use Rattle.ix_tcpdef.specs.declared.types.TheConstants.{FIN}
 use Rattle.ix_tcb.specs.Stands.{tcb_of, head_of}
 use Rattle.ix_tcb.proofs.NumberLemmas.{goes_on}
 use Rattle.ix_tcpin.specs.declared.text.Octets.{Octets as Places}
-use Rattle.ix_tcpin.specs.declared.verdict.Event.{Event}
 use Rattle.ix_tcpin.specs.declared.verdict.HeldUse.{HeldUse}
 use Rattle.ix_tcpin.specs.declared.verdict.Take.TheVariants as takes
 use Rattle.ix_tcpin.specs.declared.verdict.Verdict.{Verdict}
@@ -62,7 +62,7 @@ pub record Texts (w : Connection) (n : WireNo) (seg : Seg) (b : Texted) (r : Job
 ends_as : (w : Connection) (seg : Seg) → IsFramed seg → stands_next seg.head (tcb_of w) ≡ ends_next seg w
 ends_as w seg framed = ap (λ (m : ℕ). has_flag seg.head.flags FIN && is_next (seq_of w seg.head +ℤ pos m)) (sym framed.len)
 
-texts-nothing : (w : Connection) (n : WireNo) (seg : Seg) (j : Job) (es : List Event) → IsFramed seg → Agrees w j es → Texts w n seg (texted (at w j es) (stands_next seg.head (tcb_of j.connection))) (j, ends_next seg j.connection)
+texts-nothing : (w : Connection) (n : WireNo) (seg : Seg) (j : Job) (es : List Told) → IsFramed seg → Agrees w j es → Texts w n seg (texted (at w j es) (stands_next seg.head (tcb_of j.connection))) (j, ends_next seg j.connection)
 texts-nothing w n seg j es framed a =
     record {
       says = says-nothing w n seg j es a;
@@ -94,7 +94,7 @@ held_as w n seg t p kept = by_test t.shut
     by_test false = refl
 
 -- what is delivered, in terms of the verdict
-said-taken : (w : Connection) (n : WireNo) (seg : Seg) (j i r : Job) (es : List Event) (c : Tcb) (p : Places) (o : Octets) (t : Tcb) (us : List HeldUse) → Agrees w j es → body_pieces w.accepted n seg (taken_body c p) ≡ fill.pieces_of n o j.connection → Delivers n o j i → Fills w.accepted j.connection.held i (record { numbers = t; uses = us; fin = true }) (r, true) → Says w n seg (work t (record (so_far w (acked_data j.connection - acked_data w) es) { take = taken_body c p; held = record { items = us } })) r
+said-taken : (w : Connection) (n : WireNo) (seg : Seg) (j i r : Job) (es : List Told) (c : Tcb) (p : Places) (o : Octets) (t : Tcb) (us : List HeldUse) → Agrees w j es → body_pieces w.accepted n seg (taken_body c p) ≡ fill.pieces_of n o j.connection → Delivers n o j i → Fills w.accepted j.connection.held i (record { numbers = t; uses = us; fin = true }) (r, true) → Says w n seg (work t (record (so_far w (acked_data j.connection - acked_data w) es) { take = taken_body c p; held = record { items = us } })) r
 said-taken w n seg j i r es c p o t us a part d f =
     let P : List Piece = fill.pieces_of n o j.connection in
     let H : List Piece = held_pieces w.accepted j.connection.held us in
@@ -127,7 +127,7 @@ pub taken_place : (past rcv at : ℕ) → at ≡ rcv + past → (past == 0) ≡ 
 taken_place past rcv at is =
     elim (cases_Bool (past == 0)) [ inl here ↦ grind (arith, common_steps, here) | inr beyond ↦ grind (arith, common_steps, beyond) ]
 
-texts-taken : (cfg : Cfg) (w : Connection) (n : WireNo) (seg : Seg) (j : Job) (es : List Event) (p : Places) (o : Octets) (fin : Bool) → cfg.window < 2 ^ 16 → Agrees w j es → IsKept cfg j.connection → IsCut (rcv_wnd cfg j.connection) j.connection.rcv (past_of (seq_of j.connection seg.head)) seg p o → p.from < p.to → p.past ≡ 0 → Texts w n seg (texted (fills p (filled_numbers (map (head_of j.connection.irs) j.connection.held) fin (moved (p.to - p.from) (tcb_of j.connection))) (at w j es)) (filled_numbers (map (head_of j.connection.irs) j.connection.held) fin (moved (p.to - p.from) (tcb_of j.connection))).fin) (filled j.connection.held fin (delivered o n j))
+texts-taken : (cfg : Cfg) (w : Connection) (n : WireNo) (seg : Seg) (j : Job) (es : List Told) (p : Places) (o : Octets) (fin : Bool) → cfg.window < 2 ^ 16 → Agrees w j es → IsKept cfg j.connection → IsCut (rcv_wnd cfg j.connection) j.connection.rcv (past_of (seq_of j.connection seg.head)) seg p o → p.from < p.to → p.past ≡ 0 → Texts w n seg (texted (fills p (filled_numbers (map (head_of j.connection.irs) j.connection.held) fin (moved (p.to - p.from) (tcb_of j.connection))) (at w j es)) (filled_numbers (map (head_of j.connection.irs) j.connection.held) fin (moved (p.to - p.from) (tcb_of j.connection))).fin) (filled j.connection.held fin (delivered o n j))
 texts-taken cfg w n seg j es p o fin window a k cut some here =
     let c : Connection = j.connection in
     let top : ℕ = c.rcv + (cfg.window - c.unread) in
@@ -169,7 +169,7 @@ new_as window w n seg c p o same cut some =
     ∙ ap (λ (b : Bool). record { at = w.rcv + past_of (seq_of w seg.head); w = n; from = seg.head.at + p.from; bytes = (body_held w n seg p.from p.to).bytes; fin = b }) fin
 
 -- one more segment is held, and the hole is answered
-says-held : (cfg : Cfg) (w : Connection) (n : WireNo) (seg : Seg) (j : Job) (es : List Event) (p : Places) (new : HeldSegment) (heads : List HeldHead) → Agrees w j es → new ≡ body_held w n seg p.from p.to → heads ≡ map (head_of j.connection.irs) (held_among new j.connection.held) → Says w n seg (replies (work (holds heads (tcb_of j.connection)) (record (so_far w (acked_data j.connection - acked_data w) es) { take = takes.Hold p.from p.to })) (ack_head cfg (tcb_of j.connection))) (gives (on j (record j.connection { held = held_among new j.connection.held })) (ack_frame cfg j.connection))
+says-held : (cfg : Cfg) (w : Connection) (n : WireNo) (seg : Seg) (j : Job) (es : List Told) (p : Places) (new : HeldSegment) (heads : List HeldHead) → Agrees w j es → new ≡ body_held w n seg p.from p.to → heads ≡ map (head_of j.connection.irs) (held_among new j.connection.held) → Says w n seg (replies (work (holds heads (tcb_of j.connection)) (record (so_far w (acked_data j.connection - acked_data w) es) { take = takes.Hold p.from p.to })) (ack_head cfg (tcb_of j.connection))) (gives (on j (record j.connection { held = held_among new j.connection.held })) (ack_frame cfg j.connection))
 says-held cfg w n seg j es p new heads a is same =
     record {
       numbers = ap (λ (l : List HeldHead). holds l (tcb_of j.connection)) same;
@@ -198,7 +198,7 @@ waits-as cfg seg c p o window k cut =
     ap (λ (m : ℕ). nat_lt m 8 && list_all (is_beside (number c.irs c.rcv) p) (map (head_of c.irs) c.held)) (length-map c.held (head_of c.irs))
     ∙ ap (λ (b : Bool). nat_lt (length c.held) 8 && b) (beside-all c.irs c.rcv (c.rcv + 1) top p o c.held cut.at cut.len (omega arith) (omega arith) k.sound.receiver.rising k.standing.buffer.held_fits)
 
-texts-hole : (cfg : Cfg) (w : Connection) (n : WireNo) (seg : Seg) (j : Job) (es : List Event) (p : Places) (o : Octets) → cfg.window < 2 ^ 16 → Agrees w j es → IsKept cfg j.connection → IsCut (rcv_wnd cfg j.connection) j.connection.rcv (past_of (seq_of j.connection seg.head)) seg p o → p.from < p.to → Texts w n seg (texted (replies (waiting_part p (has_flag seg.head.flags FIN && o.whole) (at w j es)) (ack_head cfg (tcb_of j.connection))) false) (gives (on j (waiting o n (has_flag seg.head.flags FIN && o.whole) j.connection)) (ack_frame cfg j.connection), false)
+texts-hole : (cfg : Cfg) (w : Connection) (n : WireNo) (seg : Seg) (j : Job) (es : List Told) (p : Places) (o : Octets) → cfg.window < 2 ^ 16 → Agrees w j es → IsKept cfg j.connection → IsCut (rcv_wnd cfg j.connection) j.connection.rcv (past_of (seq_of j.connection seg.head)) seg p o → p.from < p.to → Texts w n seg (texted (replies (waiting_part p (has_flag seg.head.flags FIN && o.whole) (at w j es)) (ack_head cfg (tcb_of j.connection))) false) (gives (on j (waiting o n (has_flag seg.head.flags FIN && o.whole) j.connection)) (ack_frame cfg j.connection), false)
 unfolding waiting_part waiting
 texts-hole cfg w n seg j es p o window a k cut some =
     let c : Connection = j.connection in
@@ -231,7 +231,7 @@ texts-hole cfg w n seg j es p o window a k cut some =
         }
 
 -- ## The body
-texts-received : (cfg : Cfg) (w : Connection) (n : WireNo) (seg : Seg) (j : Job) (es : List Event) (p : Places) (o : Octets) → cfg.window < 2 ^ 16 → Agrees w j es → IsKept cfg j.connection → IsCut (rcv_wnd cfg j.connection) j.connection.rcv (past_of (seq_of j.connection seg.head)) seg p o → p.from < p.to → Texts w n seg (received_part cfg p (has_flag seg.head.flags FIN && o.whole) (at w j es)) (received cfg o n (has_flag seg.head.flags FIN && o.whole) j)
+texts-received : (cfg : Cfg) (w : Connection) (n : WireNo) (seg : Seg) (j : Job) (es : List Told) (p : Places) (o : Octets) → cfg.window < 2 ^ 16 → Agrees w j es → IsKept cfg j.connection → IsCut (rcv_wnd cfg j.connection) j.connection.rcv (past_of (seq_of j.connection seg.head)) seg p o → p.from < p.to → Texts w n seg (received_part cfg p (has_flag seg.head.flags FIN && o.whole) (at w j es)) (received cfg o n (has_flag seg.head.flags FIN && o.whole) j)
 unfolding received_part received
 texts-received cfg w n seg j es p o window a k cut some =
     elim (cases_Bool (p.past == 0)) [
@@ -247,7 +247,7 @@ pub empty_test : (from to len : ℕ) → len ≡ to - from → from ≤ to → (
 empty_test from to len is order =
     elim (cases_Bool (to == from)) [ inl level ↦ grind (arith, common_steps, level) | inr more ↦ grind (arith, common_steps, more) ]
 
-texts-octets : (cfg : Cfg) (w : Connection) (n : WireNo) (seg : Seg) (j : Job) (es : List Event) (p : Places) (o : Octets) → cfg.window < 2 ^ 16 → IsFramed seg → Agrees w j es → IsKept cfg j.connection → IsCut (rcv_wnd cfg j.connection) j.connection.rcv (past_of (seq_of j.connection seg.head)) seg p o → Texts w n seg (if p.to == p.from then texted (at w j es) (stands_next seg.head (tcb_of j.connection)) else received_part cfg p (has_flag seg.head.flags FIN && p.whole) (at w j es)) (if length o.bytes == 0 then (j, ends_next seg j.connection) else received cfg o n (has_flag seg.head.flags FIN && o.whole) j)
+texts-octets : (cfg : Cfg) (w : Connection) (n : WireNo) (seg : Seg) (j : Job) (es : List Told) (p : Places) (o : Octets) → cfg.window < 2 ^ 16 → IsFramed seg → Agrees w j es → IsKept cfg j.connection → IsCut (rcv_wnd cfg j.connection) j.connection.rcv (past_of (seq_of j.connection seg.head)) seg p o → Texts w n seg (if p.to == p.from then texted (at w j es) (stands_next seg.head (tcb_of j.connection)) else received_part cfg p (has_flag seg.head.flags FIN && p.whole) (at w j es)) (if length o.bytes == 0 then (j, ends_next seg j.connection) else received cfg o n (has_flag seg.head.flags FIN && o.whole) j)
 texts-octets cfg w n seg j es p o window framed a k cut =
     let test : (p.to == p.from) ≡ (length o.bytes == 0) = empty_test p.from p.to (length o.bytes) cut.len cut.order in
     elim (cases_Bool (p.to == p.from)) [
@@ -262,7 +262,7 @@ texts-octets cfg w n seg j es p o window framed a k cut =
           (texts-received cfg w n seg j es p o window a k cut (grind (arith, common_steps, more))))
     ]
 
-texts-body : (cfg : Cfg) (w : Connection) (n : WireNo) (seg : Seg) (j : Job) (es : List Event) → cfg.window < 2 ^ 16 → IsFramed seg → Agrees w j es → IsKept cfg j.connection → Texts w n seg (body_part cfg seg.head (at w j es)) (body cfg n seg j)
+texts-body : (cfg : Cfg) (w : Connection) (n : WireNo) (seg : Seg) (j : Job) (es : List Told) → cfg.window < 2 ^ 16 → IsFramed seg → Agrees w j es → IsKept cfg j.connection → Texts w n seg (body_part cfg seg.head (at w j es)) (body cfg n seg j)
 unfolding body_part body
 texts-body cfg w n seg j es window framed a k =
     elim (cases_Bool (takes_body j.connection.state)) [
@@ -273,13 +273,13 @@ texts-body cfg w n seg j es window framed a k =
 
 -- ## The FIN
 -- a verdict with what was held let go, and with these events
-abbrev over : Verdict → List Event → Verdict
+abbrev over : Verdict → List Told → Verdict
 over v es = record (let_go v) { told = record { items = es } }
 
-pieces-let_go : (w : Connection) (n : WireNo) (seg : Seg) (v : Verdict) (es : List Event) → pieces_of w n seg (over v es) ≡ pieces_of w n seg v
+pieces-let_go : (w : Connection) (n : WireNo) (seg : Seg) (v : Verdict) (es : List Told) → pieces_of w n seg (over v es) ≡ pieces_of w n seg v
 pieces-let_go w n seg v es = ap (λ (l : List Piece). body_pieces w.accepted n seg v.take ++ l) (dropped-pieces w.accepted w.held v.held.items)
 
-said-fin : (w : Connection) (n : WireNo) (seg : Seg) (j : Job) (v : Verdict) (s : Bool) (c : Connection) (es : List Event) (os : List Output) → s ≡ true → Texts w n seg (texted (work (tcb_of j.connection) v) s) (j, s) → c.pieces ≡ j.connection.pieces → c.held ≡ [] → acked_data c ≡ acked_data j.connection → is_closed c.state ≡ false → first_told es ≡ first_told v.told.items → last_told es ≡ os → Says w n seg (work (tcb_of c) (over v es)) (record { connection = c; outputs = j.outputs ++ os })
+said-fin : (w : Connection) (n : WireNo) (seg : Seg) (j : Job) (v : Verdict) (s : Bool) (c : Connection) (es : List Told) (os : List Output) → s ≡ true → Texts w n seg (texted (work (tcb_of j.connection) v) s) (j, s) → c.pieces ≡ j.connection.pieces → c.held ≡ [] → acked_data c ≡ acked_data j.connection → is_closed c.state ≡ false → first_told es ≡ first_told v.told.items → last_told es ≡ os → Says w n seg (work (tcb_of c) (over v es)) (record { connection = c; outputs = j.outputs ++ os })
 said-fin w n seg j v s c es os stands t pieces held acked alive first last =
     let none : v.reply ≡ None = t.quiet stands in
     let A : List Output = first_told v.told.items in
@@ -310,19 +310,19 @@ said-fin_quiet w n seg j v s c stands t pieces held acked alive =
     (said-fin w n seg j v s c v.told.items [] stands t pieces held acked alive refl t.last)
 
 -- the end of the stream, behind everything else that is told
-end-first : (es : List Event) → first_told (es ++ record { told = told.RecvEnd } ∷ []) ≡ first_told es
+end-first : (es : List Told) → first_told (es ++ told.RecvEnd ∷ []) ≡ first_told es
 end-first [] = refl
 end-first (e ∷ es) =
-    elim (cases_Bool (is_end e.told)) [
+    elim (cases_Bool (is_end e)) [
       | inl last ↦ rw last (end-first es)
-      | inr before ↦ rw before (ap (λ (l : List Output). outputs.Told e.told ∷ l) (end-first es))
+      | inr before ↦ rw before (ap (λ (l : List Output). outputs.Told e ∷ l) (end-first es))
     ]
 
-end-last : (es : List Event) → last_told (es ++ record { told = told.RecvEnd } ∷ []) ≡ last_told es ++ outputs.Told told.RecvEnd ∷ []
+end-last : (es : List Told) → last_told (es ++ told.RecvEnd ∷ []) ≡ last_told es ++ outputs.Told told.RecvEnd ∷ []
 end-last [] = refl
 end-last (e ∷ es) =
-    elim (cases_Bool (is_end e.told)) [
-      | inl last ↦ rw last (ap (λ (l : List Output). outputs.Told e.told ∷ l) (end-last es))
+    elim (cases_Bool (is_end e)) [
+      | inl last ↦ rw last (ap (λ (l : List Output). outputs.Told e ∷ l) (end-last es))
       | inr before ↦ rw before (end-last es)
     ]
 
@@ -333,7 +333,7 @@ says-fin_in : (st : State) (cfg : Cfg) (now : ℕ) (w : Connection) (n : WireNo)
 says-fin_in st.Established cfg now w n seg j v s is stands t = by_test (j.connection.accepted && not j.connection.shut)
   where
     by_test : (b : Bool) → Says w n seg (if b then announces (work (tcb_of (record (past_fin j.connection) { state = st.CloseWait })) (let_go v)) told.RecvEnd else work (tcb_of (record (past_fin j.connection) { state = st.CloseWait })) (let_go v)) (if b then gives (on j (record (past_fin j.connection) { state = st.CloseWait })) (outputs.Told told.RecvEnd) else on j (record (past_fin j.connection) { state = st.CloseWait }))
-    by_test true = said-fin w n seg j v s (record (past_fin j.connection) { state = st.CloseWait }) (v.told.items ++ record { told = told.RecvEnd } ∷ []) (outputs.Told told.RecvEnd ∷ []) stands t refl refl refl refl (end-first v.told.items) (end-last v.told.items ∙ ap (λ (l : List Output). l ++ outputs.Told told.RecvEnd ∷ []) t.last)
+    by_test true = said-fin w n seg j v s (record (past_fin j.connection) { state = st.CloseWait }) (v.told.items ++ told.RecvEnd ∷ []) (outputs.Told told.RecvEnd ∷ []) stands t refl refl refl refl (end-first v.told.items) (end-last v.told.items ∙ ap (λ (l : List Output). l ++ outputs.Told told.RecvEnd ∷ []) t.last)
     by_test false = said-fin_quiet w n seg j v s (record (past_fin j.connection) { state = st.CloseWait }) stands t refl refl refl refl
 says-fin_in st.FinWait1 cfg now w n seg j v s is stands t = said-fin_quiet w n seg j v s (record (past_fin j.connection) { state = st.Closing }) stands t refl refl refl refl
 says-fin_in st.FinWait2 cfg now w n seg j v s is stands t = said-fin_quiet w n seg j v s (record (past_fin j.connection) { state = st.TimeWait; deadline = Some (later now cfg.time_wait) }) stands t refl refl refl refl
@@ -381,7 +381,7 @@ says-finished cfg now w n seg b r t =
     subst (λ (x : Texted). Says w n seg (finished_part cfg seg.head now x) (finished cfg seg.head now r.1 r.0)) same
     (says-finished_at cfg now w n seg r.0 b.work.verdict r.1 at_connection)
 
-pub says-text : (cfg : Cfg) (now : ℕ) (w : Connection) (n : WireNo) (seg : Seg) (j : Job) (es : List Event) → cfg.window < 2 ^ 16 → IsFramed seg → Agrees w j es → IsKept cfg j.connection → Says w n seg (text_part cfg seg.head now (at w j es)) (text_and_fin cfg n seg now j)
+pub says-text : (cfg : Cfg) (now : ℕ) (w : Connection) (n : WireNo) (seg : Seg) (j : Job) (es : List Told) → cfg.window < 2 ^ 16 → IsFramed seg → Agrees w j es → IsKept cfg j.connection → Says w n seg (text_part cfg seg.head now (at w j es)) (text_and_fin cfg n seg now j)
 unfolding text_part text_and_fin
 says-text cfg now w n seg j es window framed a k =
     says-finished cfg now w n seg (body_part cfg seg.head (at w j es)) (body cfg n seg j) (texts-body cfg w n seg j es window framed a k)

@@ -28,7 +28,6 @@ use Rattle.ix_tcpdef.specs.declared.types.Told.{Told}
 use Rattle.ix_tcpdef.specs.declared.types.Told.TheVariants as told
 use Rattle.ix_tcpdef.specs.declared.types.TheConstants.{FIN}
 use Rattle.ix_tcb.specs.Stands.{tcb_of, HasOpened}
-use Rattle.ix_tcpin.specs.declared.verdict.Event.{Event}
 use Rattle.ix_tcpin.specs.declared.verdict.HeldUse.{HeldUse}
 use Rattle.ix_tcpin.specs.declared.verdict.HeldUse.TheVariants as uses
 use Rattle.ix_tcpin.specs.declared.verdict.Take.{Take}
@@ -104,13 +103,13 @@ abbrev pub is_end : Told → Bool
 is_end told.RecvEnd = true
 is_end _ = false
 
-abbrev pub first_told : List Event → List Output
+abbrev pub first_told : List Told → List Output
 first_told [] = []
-first_told (e ∷ es) = if is_end e.told then first_told es else outputs.Told e.told ∷ first_told es
+first_told (e ∷ es) = if is_end e then first_told es else outputs.Told e ∷ first_told es
 
-abbrev pub last_told : List Event → List Output
+abbrev pub last_told : List Told → List Output
 last_told [] = []
-last_told (e ∷ es) = if is_end e.told then outputs.Told e.told ∷ last_told es else last_told es
+last_told (e ∷ es) = if is_end e then outputs.Told e ∷ last_told es else last_told es
 
 abbrev pub told_pieces : List Piece → List Output
 told_pieces [] = []
@@ -200,9 +199,9 @@ abbrev pub is_part : Told → Bool
 is_part (told.Recv w from len) = true
 is_part _ = false
 
-abbrev pub AreNoParts : List Event → Type 0
+abbrev pub AreNoParts : List Told → Type 0
 AreNoParts [] = Unit {0}
-AreNoParts (e ∷ es) = (is_part e.told ≡ false) × AreNoParts es
+AreNoParts (e ∷ es) = (is_part e ≡ false) × AreNoParts es
 
 -- len: the body's length; heads: what was held; queued: how many bytes were in the send queue
 pub record LiesWithin (len : ℕ) (heads : List HeldHead) (queued : ℕ) (v : Verdict) : Type 0 where

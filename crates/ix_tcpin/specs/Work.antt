@@ -56,7 +56,7 @@ abbrev pub replies : Work → SegHead → Work
 replies k h = record k { verdict = record k.verdict { reply = Some h } }
 
 abbrev pub announces : Work → Told → Work
-announces k t = record k { verdict = record k.verdict { told = record { items = k.verdict.told.items ++ record { told = t } ∷ [] } } }
+announces k t = record k { verdict = record k.verdict { told = record { items = k.verdict.told.items ++ t ∷ [] } } }
 
 -- an event of an accepted connection, which is not told of one that the application closed
 abbrev pub tells : Work → Told → Work

@@ -13,7 +13,7 @@ mod verdict;
 mod words;
 
 pub use arrival::arrive;
-pub use verdict::{Event, HeldUse, Take, Uses, Verdict};
+pub use verdict::{HeldUse, Take, Uses, Verdict};
 
 #[cfg(test)]
 mod tests;

@@ -29,18 +29,6 @@ pub enum HeldUse {
     Drop,
 }
 
-/// Something that the application is told.
-#[derive(Clone, Copy, Debug, PartialEq, Eq)]
-pub struct Event {
-    pub told: Told,
-}
-
-impl Default for Event {
-    fn default() -> Event {
-        Event { told: Told::Knock }
-    }
-}
-
 /// One use for each held segment, by rising position.
 pub type Uses = ArrayVec<HeldUse, 8>;
 
@@ -55,7 +43,7 @@ pub struct Verdict {
     pub acked: u32,
     /// What the application is told in order, but for the parts of the stream: these are what `take` and `held` deliver, and stand before the
     /// end of the stream and behind everything else.
-    pub told: ArrayVec<Event, 4>,
+    pub told: ArrayVec<Told, 4>,
     /// Whether the connection ended.
     pub ended: bool,
 }

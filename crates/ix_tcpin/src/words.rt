@@ -4,7 +4,7 @@ ghost use Rattle.arrayvec.specs.ArrayVec.{array_vec_len};
 ghost use Rattle.ix_tcpdef.specs.Connection.{grown as grown_of, initial_window as initial_of, is_time_wait as time_wait_test, is_syn_received as syn_received_test};
 ghost use Rattle.ix_tcpin.specs.Work.{work, announces, tells, ends, closed as closed_of};
 
-use crate::verdict::{Event, Verdict, drop_kept};
+use crate::verdict::{Verdict, drop_kept};
 use arrayvec::ArrayVec;
 use ix_tcpdef::{State, Tcb, Told};
 
@@ -50,7 +50,7 @@ pub fn announce(told: Told, tcb: &Tcb, verdict: &mut Verdict)
     ensures few { array_vec_len verdict.new.told ≤ array_vec_len verdict.old.told + 1 }
     ensures step { work tcb.now verdict.new ≡ announces (work tcb.now verdict.old) told }
 {
-    verdict.told.push(Event { told });
+    verdict.told.push(told);
 }
 
 /// Tells an event, where the connection is accepted and not closed by the application.

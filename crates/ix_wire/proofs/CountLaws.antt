@@ -244,26 +244,26 @@ line_few own others number line p q few e =
           run_few own others number step.value (record p { begun = true }) q few step.rest
 
 -- all lines, and the settle at the end
-finish_count : (p : Progress) (es : List Entry) → IsFew 131073 p.wire → finish p ≡ Ok es → length es ≤ 2 ^ 32
+finish_count : (p : Progress) (es : List Entry) → IsFew 131073 p.wire → finish p ≡ Ok es → length es < 2 ^ 32
 unfolding finish
 finish_count p es few e = step (earliest p.table.tags) e where
-  step : (o : Option ℕ) → entries_unless o (settled p.wire).entries ≡ Ok es → length es ≤ 2 ^ 32
+  step : (o : Option ℕ) → entries_unless o (settled p.wire).entries ≡ Ok es → length es < 2 ^ 32
   step (Some line) e = absurd (cc)
   step None e =
       let is : (settled p.wire).entries ≡ es = cc in
       let last = settled_few 131073 p.wire few in
-      subst (λ all. length all ≤ 2 ^ 32) is (omega (arith, last.entries, last.frames, last.moves))
+      subst (λ all. length all < 2 ^ 32) is (omega (arith, last.entries, last.frames, last.moves))
 
 lines_count : (own : List Bool) (number : ℕ) (lines : List (List ℕ)) (p : Progress) (es : List Entry) → number ≤ 65536 → IsFew (2 * number + 1) p.wire
-    → lines_run own number p lines ≡ Ok es → length es ≤ 2 ^ 32
+    → lines_run own number p lines ≡ Ok es → length es < 2 ^ 32
 lines_count own number [] p es limit few e = finish_count p es (wider (2 * number + 1) 131073 p.wire (omega arith) few) e
 lines_count own number (line ∷ lines) p es limit few e =
     step (number == 65536) refl (line_run own (number + 1) line p) (λ q is. line_few own (2 * number) (number + 1) line p q few is)
     (λ q limit few e. lines_count own (number + 1) lines q es limit few e) e where
       step : (b : Bool) → (number == 65536) ≡ b → (r : Result Progress ScriptKind) → ((q : Progress) → r ≡ Ok q → IsFew (2 * number + 3) q.wire)
-          → ((q : Progress) → number + 1 ≤ 65536 → IsFew (2 * (number + 1) + 1) q.wire → lines_run own (number + 1) q lines ≡ Ok es → length es ≤ 2 ^ 32)
+          → ((q : Progress) → number + 1 ≤ 65536 → IsFew (2 * (number + 1) + 1) q.wire → lines_run own (number + 1) q lines ≡ Ok es → length es < 2 ^ 32)
           → (if b then Err (faults.At (number + 1) kinds.TooMany) else behind (number + 1) r (λ next. lines_run own (number + 1) next lines)) ≡ Ok es
-          → length es ≤ 2 ^ 32
+          → length es < 2 ^ 32
       step true at r grown later e = absurd (cc)
       step false at (Err kind) grown later e = absurd (cc)
       step false at (Ok q) grown later e =
@@ -271,7 +271,7 @@ lines_count own number (line ∷ lines) p es limit few e =
           (wider (2 * number + 3) (2 * (number + 1) + 1) q.wire (omega arith) (grown q refl)) e
 
 pub wire_of-count : (pace cores live : ℕ) (own : List Bool) (bytes : List ℕ) (es : List Entry) → wire_of pace cores live own bytes ≡ Ok es
-    → length es ≤ 2 ^ 32
+    → length es < 2 ^ 32
 unfolding wire_of opening start
 wire_of-count pace cores live own bytes es e =
     lines_count own 0 (lines_of bytes) (opening pace cores live) es (omega arith)

@@ -234,7 +234,7 @@ all_over (None ∷ tags) zero e = refl
 all_over (None ∷ tags) (suc group) e = all_over tags group e
 all_over (Some line ∷ tags) group e = absurd (open_tag line tags e)
 
-finish_wire : (records cores : ℕ) (p : Progress) (es : List Entry) → length es ≤ 2 ^ 32 → IsSound records cores p → finish p ≡ Ok es
+finish_wire : (records cores : ℕ) (p : Progress) (es : List Entry) → length es < 2 ^ 32 → IsSound records cores p → finish p ≡ Ok es
     → IsWire records cores es
 unfolding finish
 finish_wire records cores p es count sound e = step (earliest p.table.tags) refl e where
@@ -246,10 +246,10 @@ finish_wire records cores p es count sound e = step (earliest p.table.tags) refl
       subst (IsWire records cores) is (record {
         there = good.there;
         alternate = λ group h. subst (Alternate group false (settled p.wire).entries) (all_over p.table.tags group first) (good.alternate group h);
-        count = subst (λ all. length all ≤ 2 ^ 32) (sym is) count;
+        count = subst (λ all. length all < 2 ^ 32) (sym is) count;
       })
 
-lines_wire : (own : List Bool) (cores number : ℕ) (lines : List (List ℕ)) (p : Progress) (es : List Entry) → length es ≤ 2 ^ 32
+lines_wire : (own : List Bool) (cores number : ℕ) (lines : List (List ℕ)) (p : Progress) (es : List Entry) → length es < 2 ^ 32
     → IsSound (length own) cores p → lines_run own number p lines ≡ Ok es → IsWire (length own) cores es
 lines_wire own cores number [] p es count sound e = finish_wire (length own) cores p es count sound e
 lines_wire own cores number (line ∷ lines) p es count sound e =

@@ -32,4 +32,4 @@ Alternate group before (entry ∷ entries) last = (alternates group before entry
 pub record IsWire (records cores : ℕ) (entries : List Entry) : Type 0 where
   pub there : All (IsThere records cores) entries
   pub alternate : (group : ℕ) → group < 512 → Alternate group false entries false
-  pub count : length entries ≤ 2 ^ 32
+  pub count : length entries < 2 ^ 32
