@@ -1,12 +1,13 @@
 -- The header that is written reads back.
-use Rattle.std.proofs.Common.{◌≡◌, ℕ, ◌+◌, ◌/◌, ◌-◌, ◌<◌, ◌≤◌, ◌^◌, List, ◌++◌, length, take, refl, ◌∙◌, ap, arith, Bool, true, false}
-use Rattle.std.specs.Prelude.{if◌then◌else◌, nat_lt, ◌==◌, not, ◌||◌, slice_index, Result, Ok}
+use Rattle.std.proofs.Common.{◌≡◌, ℕ, ◌+◌, ◌/◌, ◌-◌, ◌<◌, ◌≤◌, ◌^◌, List, ◌++◌, length, take, drop, refl, subst, ◌∙◌, ap, arith, Bool, true, false}
+use Rattle.std.specs.Prelude.{if◌then◌else◌, nat_lt, ◌==◌, not, ◌||◌, slice_index, Result, Ok, Err, IfOk}
 use Rattle.std.proofs.lemmas.Bool.Decides.{nat_tests}
-use Rattle.std.proofs.lemmas.List.{take_all}
+use Rattle.std.proofs.lemmas.List.{take_all, length-take, length-drop}
 use Rattle.byteorder.specs.Endian.{big_from, big_bytes}
 use Rattle.ix_ip.specs.declared.packet.IpFault.{IpFault}
+use Rattle.ix_ip.specs.declared.packet.IpFault.TheVariants as faults
 use Rattle.ix_ip.specs.Sum.{carried, word_sum, sum16_of, is_summed}
-use Rattle.ix_ip.specs.Packet.{Packet, packet_of, packet_parts, header_len, total_len, fragment_bits}
+use Rattle.ix_ip.specs.Packet.{Packet, packet_of, packet_parts, header_len, total_len, fragment_bits, PayloadsLieWithin}
 use Rattle.ix_ip.specs.Header.{header_with, ip_header, IsPacketHeader}
 use Rattle.ix_ip.proofs.SumLaws.{carried-complement}
 
@@ -59,3 +60,38 @@ header_read src dst protocol total hs hd ht = λ payload is.
     (omega arith) refl (omega arith) (omega arith) (checksum_right src dst protocol total) refl
     ∙ same_packet src dst protocol payload (big_from 0 4 (big_bytes 4 src)) (big_from 0 4 (big_bytes 4 dst)) _ (long_back src hs) (long_back dst hd)
     (take_all _ payload (omega arith))
+
+-- ## Where a payload lies
+-- what holds of an Ok past a test that gives an Err
+if_ok : {A E : Type 0} (P : A → Type 0) (b : Bool) (e : E) (y : Result A E) → (b ≡ false → IfOk y P) → IfOk (if b then Err e else y) P
+if_ok P true e y h = tt
+if_ok P false e y h = h refl
+
+header_long : (h t n : ℕ) → (nat_lt h 20 || nat_lt t h || nat_lt n t) ≡ false → 20 ≤ h
+header_long h t n e = grind (arith, nat_tests)
+
+total_long : (h t n : ℕ) → (nat_lt h 20 || nat_lt t h || nat_lt n t) ≡ false → h ≤ t
+total_long h t n e = grind (arith, nat_tests)
+
+total_within : (h t n : ℕ) → (nat_lt h 20 || nat_lt t h || nat_lt n t) ≡ false → t ≤ n
+total_within h t n e = grind (arith, nat_tests)
+
+within_if : (bytes : List ℕ) → IfOk (packet_of bytes) (λ p. length p.payload + 20 ≤ length bytes)
+unfolding packet_of
+within_if bytes =
+    let P : Packet → Type 0 = λ p. length p.payload + 20 ≤ length bytes in
+    let h = header_len bytes in
+    let t = total_len bytes in
+    if_ok P (nat_lt (length bytes) 20) faults.Short _ (λ long.
+    if_ok P (not (slice_index bytes 0 / 16 == 4)) faults.BadVersion _ (λ version.
+    if_ok P (nat_lt h 20 || nat_lt t h || nat_lt (length bytes) t) faults.BadLength _ (λ lengths.
+    if_ok P (not (is_summed (take h bytes))) faults.BadSum _ (λ sum.
+    if_ok P (not (fragment_bits bytes == 0)) faults.Fragment _ (λ whole.
+    within_lengths bytes h t (header_long h t _ lengths) (total_long h t _ lengths) (total_within h t _ lengths)))))) where
+      within_lengths : (bytes : List ℕ) (h t : ℕ) → 20 ≤ h → h ≤ t → t ≤ length bytes → length (take (t - h) (drop h bytes)) + 20 ≤ length bytes
+      within_lengths bytes h t a b c = omega (arith, length-take (t - h) (drop h bytes), length-drop h bytes)
+
+-- a packet's payload is within its bytes, behind its header
+pub payloads_lie_within : PayloadsLieWithin
+payloads_lie_within bytes p e =
+    subst (λ (r : Result Packet IpFault). IfOk r (λ q. length q.payload + 20 ≤ length bytes)) e (within_if bytes)

@@ -1,5 +1,5 @@
 -- IPv4 packets (RFC 791, section 3.1).
-use Rattle.std.specs.Prelude.{ℕ, ◌+◌, ◌*◌, ◌/◌, ◌%◌, ◌-◌, List, length, take, drop, slice_index, not, ◌||◌, ◌&&◌, Option, Some, None, Result, Ok, Err, if◌then◌else◌, nat_lt, nat_le, ◌==◌}
+use Rattle.std.specs.Prelude.{ℕ, ◌≡◌, ◌≤◌, ◌+◌, ◌*◌, ◌/◌, ◌%◌, ◌-◌, List, length, take, drop, slice_index, not, ◌||◌, ◌&&◌, Option, Some, None, Result, Ok, Err, if◌then◌else◌, nat_lt, nat_le, ◌==◌}
 use Rattle.byteorder.specs.Endian.{big_from}
 use Rattle.ix_base.specs.declared.id.Flow.{Flow}
 use Rattle.ix_ip.specs.declared.packet.IpFault.{IpFault}
@@ -43,6 +43,10 @@ packet_of bytes =
     else if not (is_summed (take (header_len bytes) bytes)) then Err faults.BadSum
     else if not (fragment_bits bytes == 0) then Err faults.Fragment
     else Ok (packet_parts bytes)
+
+-- A packet's payload lies within the bytes that it is read from, behind a header of at least 20 bytes.
+abbrev pub PayloadsLieWithin : Type 0
+PayloadsLieWithin = (bytes : List ℕ) (p : Packet) → packet_of bytes ≡ Ok p → length p.payload + 20 ≤ length bytes
 
 -- The flow that a packet names: a packet of protocol 6 with the four bytes of two ports at the head of its payload. It was sent by the
 -- remote end.

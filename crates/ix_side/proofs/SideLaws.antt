@@ -1,4 +1,4 @@
--- Answers have right sums, and a packet's payload is within its bytes.
+-- Answers have right sums.
 use Rattle.std.proofs.Common.{◌≡◌, ◌≢◌, ℕ, zero, suc, ◌+◌, ◌/◌, ◌-◌, ◌<◌, ◌≤◌, List, ◌∷◌, ◌++◌, length, take, drop, refl, ◌∙◌, sym, ap, subst, append_assoc, length-append, arith, Bool, true, false}
 use Rattle.std.specs.Prelude.{if◌then◌else◌, nat_lt, ◌==◌, not, ◌||◌, Result, Ok, Err, IfOk, slice_index}
 use Rattle.std.proofs.lemmas.Bool.Decides.{nat_tests}
@@ -91,40 +91,6 @@ udp_checksum src dst d header s t u whole es eh et eu =
     ap (λ (n : ℕ). 65535 - n)
     (three_summed (p (length (udp_with d 0))) (udp_header_with d 0) (drop 8 d) 6 4 s t u refl refl
     (es ∙ ap (λ (n : ℕ). carried (word_sum (p n))) len) (et ∙ ap (λ (xs : List ℕ). carried (s + word_sum xs)) eh) tail)
-
--- what holds of an Ok past a test that gives an Err
-if_ok : {A E : Type 0} (P : A → Type 0) (b : Bool) (e : E) (y : Result A E) → (b ≡ false → IfOk y P) → IfOk (if b then Err e else y) P
-if_ok P true e y h = tt
-if_ok P false e y h = h refl
-
-header_long : (h t n : ℕ) → (nat_lt h 20 || nat_lt t h || nat_lt n t) ≡ false → 20 ≤ h
-header_long h t n e = grind (arith, nat_tests)
-
-total_long : (h t n : ℕ) → (nat_lt h 20 || nat_lt t h || nat_lt n t) ≡ false → h ≤ t
-total_long h t n e = grind (arith, nat_tests)
-
-total_within : (h t n : ℕ) → (nat_lt h 20 || nat_lt t h || nat_lt n t) ≡ false → t ≤ n
-total_within h t n e = grind (arith, nat_tests)
-
-within_if : (bytes : List ℕ) → IfOk (packet_of bytes) (λ p. length p.payload + 20 ≤ length bytes)
-unfolding packet_of
-within_if bytes =
-    let P : Packet → Type 0 = λ p. length p.payload + 20 ≤ length bytes in
-    let h = header_len bytes in
-    let t = total_len bytes in
-    if_ok P (nat_lt (length bytes) 20) faults.Short _ (λ long.
-    if_ok P (not (slice_index bytes 0 / 16 == 4)) faults.BadVersion _ (λ version.
-    if_ok P (nat_lt h 20 || nat_lt t h || nat_lt (length bytes) t) faults.BadLength _ (λ lengths.
-    if_ok P (not (is_summed (take h bytes))) faults.BadSum _ (λ sum.
-    if_ok P (not (fragment_bits bytes == 0)) faults.Fragment _ (λ whole.
-    within_lengths bytes h t (header_long h t _ lengths) (total_long h t _ lengths) (total_within h t _ lengths)))))) where
-      within_lengths : (bytes : List ℕ) (h t : ℕ) → 20 ≤ h → h ≤ t → t ≤ length bytes → length (take (t - h) (drop h bytes)) + 20 ≤ length bytes
-      within_lengths bytes h t a b c = omega (arith, length-take (t - h) (drop h bytes), length-drop h bytes)
-
--- a packet's payload is within its bytes, behind its header
-pub packet_within : (bytes : List ℕ) (p : Packet) → packet_of bytes ≡ Ok p → length p.payload + 20 ≤ length bytes
-packet_within bytes p e =
-    subst (λ (r : Result Packet IpFault). IfOk r (λ q. length q.payload + 20 ≤ length bytes)) e (within_if bytes)
 
 -- parts that are put one after the other
 three_parts : (t u v e i h' h r : List ℕ) → t ≡ e ++ i → u ≡ t ++ h' → v ≡ u ++ r → h' ≡ h → v ≡ e ++ (i ++ (h ++ r))

@@ -7,7 +7,7 @@ use crate::icmp::{icmp_answer, is_icmp_echo};
 use crate::udp::{is_udp_echo, udp_answer};
 use ix_base::Local;
 use ix_eth::EthView;
-use ix_ip::IpView;
+use ix_ip::{IpView, payloads_lie_within};
 
 /// What a packet of another protocol than TCP is.
 #[derive(Clone, Copy, Debug, PartialEq, Eq)]
@@ -32,6 +32,7 @@ pub fn side_answer(view: &EthView<'_>, ip: &IpView<'_>, local: &Local, out: &mut
     ensures answer { Answers view.now ip.now local.now out.old out.new result }
     ensures right { IsRight view.now ip.now local.now out.new result }
 {
+    payloads_lie_within();
     if is_icmp_echo(ip) {
         let len = icmp_answer(view, ip, local, out);
         return Side::IcmpEcho { len };
