@@ -5,9 +5,9 @@ ghost use Rattle.ix_tcpdef.specs.Sound.{FitsPeer, IsInRange, IsStanding, IsWritt
 
 use crate::draw::Draw;
 use ix_base::{Bytes, Flow, NoMemory, Ret, Seg, SegHead, WireNo};
-use ix_tcb::unopened;
 use ix_tcpdef::{
     ACK, Ask, BEHIND_HEADER, Cfg, Input, Output, Outputs, SYN, State, Tcb, World1, step_plain,
+    unopened,
 };
 use ix_tcpout::{Outs, expire, flush};
 use std::alloc::Global;

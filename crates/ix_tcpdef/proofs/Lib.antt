@@ -13,3 +13,4 @@ pub mod FairArrival
 pub mod FairStep
 pub mod DeliverBody
 pub mod DeliverStep
+pub mod OpeningLemmas

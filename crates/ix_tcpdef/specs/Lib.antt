@@ -13,3 +13,5 @@ pub mod Sound
 pub mod World
 pub mod Laws
 pub mod Delivered
+pub mod Stands
+pub mod Positions

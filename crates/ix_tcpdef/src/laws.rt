@@ -1,6 +1,7 @@
-// Laws over runs of a connection.
+// Laws over runs of a connection, and over the numbers that stand for it.
 ghost use Rattle.ix_tcpdef.specs.Laws.{RunsKeep, RunsSendFairly};
 ghost use Rattle.ix_tcpdef.specs.Delivered.{RunsDeliver, RunsAgree};
+ghost use Rattle.ix_tcpdef.specs.Positions.{CountsAhead, TestsPast, TestsAtOrPast, TellsApart, GoesOn, FindsPosition, BeginsOpening, StepsOpen};
 
 /// Nothing happens here: the contract says what is true of every run of a connection under a configuration in range, from any connection
 /// on that keeps what connections keep. Every connection of the run keeps it too, and each frame of the run acknowledges what is expected
@@ -13,4 +14,23 @@ pub fn runs_are_sound()
     ensures frames { RunsSendFairly }
     ensures told { RunsDeliver }
     ensures agreed { RunsAgree }
+{}
+
+/// Nothing happens here: the contract says how numbers modulo 2^32 are read as positions. Two positions less than 2^32 apart are as far
+/// apart as their numbers, going up, and equal where these are; less than 2^31 apart they compare as their numbers do. The number of a
+/// position that is so many further on is that sum modulo 2^32, and every number is that of the position as far ahead as it is.
+pub fn numbers_stand_for_positions()
+    ensures ahead { CountsAhead }
+    ensures past { TestsPast }
+    ensures at_or_past { TestsAtOrPast }
+    ensures apart { TellsApart }
+    ensures further { GoesOn }
+    ensures found { FindsPosition }
+{}
+
+/// Nothing happens here: the contract says that before its opening nothing was given to a connection, and that in SYN-RECEIVED the SYN alone
+/// was sent and is not acknowledged, whatever happened to it from its beginning on. That tells position 0 from position 2^32 there.
+pub fn openings_stand()
+    ensures begins { BeginsOpening }
+    ensures steps { StepsOpen }
 {}

@@ -9,6 +9,7 @@ mod connection;
 mod copy;
 mod flush;
 mod frames;
+mod fresh;
 mod laws;
 mod numbers;
 mod opening;
@@ -17,7 +18,8 @@ mod timer;
 mod types;
 mod world;
 
-pub use laws::runs_are_sound;
+pub use fresh::unopened;
+pub use laws::{numbers_stand_for_positions, openings_stand, runs_are_sound};
 pub use types::{
     ACK, Ask, BEHIND_HEADER, BEHIND_SYN, Cfg, Connection, FIN, HeldHead, HeldSegment, Input, Job,
     Left, Octets, Output, Outputs, PSH, Piece, RST, SYN, State, Tcb, Told,

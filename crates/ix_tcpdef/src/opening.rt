@@ -18,7 +18,7 @@ use ix_base::{NoMemory, SegHead};
 use std::alloc::Global;
 
 /// The largest body of a segment to a peer that has no option.
-const DEFAULT_MSS: u16 = 536;
+pub const DEFAULT_MSS: u16 = 536;
 
 const LEAST_MSS: u16 = 64;
 

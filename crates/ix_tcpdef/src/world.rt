@@ -2,7 +2,7 @@
 ghost use Rattle.std.specs.Prelude.{◌≡◌, ◌+◌, ◌<◌, ◌≤◌, IfOk, OnSome, IsNone, ◌↔◌, length, slice_get, map};
 
 use crate::copy::copy;
-use crate::opening::FIRST_THRESHOLD;
+use crate::opening::{DEFAULT_MSS, FIRST_THRESHOLD};
 use crate::step::make_step;
 use crate::types::{Cfg, Connection, Input, Job, Left, Outputs, State};
 use ix_base::{Bytes, Flow, List, NoMemory, WireNo};
@@ -43,7 +43,7 @@ impl World1 {
                 state: State::Listen,
                 iss,
                 irs: 0,
-                mss: 536,
+                mss: DEFAULT_MSS,
                 sent: Bytes::new(alloc),
                 una: 0,
                 nxt: 0,

@@ -12,7 +12,7 @@ use Rattle.ix_tcpdef.specs.Arrival.{Goes, Stops, ◌>>=◌}
 use Rattle.ix_tcpdef.specs.Acknowledgement.{is_duplicate, duplicated, advanced, is_newer, unpersisted, windowed, established, establishing, too_far, acked, told_sent, fin_acked_in, fin_acked, synchronized, acknowledgement}
 use Rattle.ix_tcpdef.specs.Needs.{carries}
 use Rattle.ix_tcpdef.specs.Sound.{IsKept, bit}
-use Rattle.ix_tcpdef.proofs.NumberLemmas.{advance_most}
+use Rattle.ix_tcpdef.proofs.NumberLemmas.{advance_most, finds_position}
 use Rattle.ix_tcpdef.proofs.KeptAck.{is_checked}
 use Rattle.ix_tcpdef.specs.declared.types.Cfg.{Cfg}
 use Rattle.ix_tcpdef.specs.declared.types.State.{State}
@@ -24,8 +24,7 @@ use Rattle.ix_tcpdef.specs.declared.types.Output.TheVariants as outputs
 use Rattle.ix_tcpdef.specs.declared.types.Tcb.{Tcb}
 use Rattle.ix_tcpdef.specs.declared.types.Told.{Told}
 use Rattle.ix_tcpdef.specs.declared.types.Told.TheVariants as told
-use Rattle.ix_tcb.specs.Stands.{tcb_of, HasOpened}
-use Rattle.ix_tcb.proofs.NumberLemmas.{finds_position}
+use Rattle.ix_tcpdef.specs.Stands.{tcb_of, HasOpened}
 use Rattle.ix_tcpin.specs.Heads.{ack_head, reset_head}
 use Rattle.ix_tcpin.specs.Work as at_work
 use Rattle.ix_tcpin.specs.Work.{Work, work, Course, Onward, Done, along, work_of, replies, announces, ends}

@@ -22,7 +22,7 @@ use Rattle.ix_tcpdef.specs.declared.types.Job.{Job}
 use Rattle.ix_tcpdef.specs.declared.types.HeldHead.{HeldHead}
 use Rattle.ix_tcpdef.specs.declared.types.Tcb.{Tcb}
 use Rattle.ix_tcpin.specs.declared.verdict.Verdict.{Verdict}
-use Rattle.ix_tcb.specs.Stands.{tcb_of, head_of, HasOpened}
+use Rattle.ix_tcpdef.specs.Stands.{tcb_of, head_of, HasOpened}
 use Rattle.ix_tcpin.specs.Work.{Work, work, Course, Onward, Done, blank}
 use Rattle.ix_tcpin.specs.Checks.{acceptability_part, reset_part, synchronize_part, unacknowledged_part}
 use Rattle.ix_tcpin.specs.Acknowledgement.{acknowledgement_part}

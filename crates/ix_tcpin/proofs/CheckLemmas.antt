@@ -16,7 +16,7 @@ use Rattle.ix_tcpdef.specs.declared.types.Output.TheVariants as outputs
 use Rattle.ix_tcpdef.specs.declared.types.Told.{Told}
 use Rattle.ix_tcpdef.specs.declared.types.Told.TheVariants as told
 use Rattle.ix_tcpdef.specs.declared.types.TheConstants.{ACK, FIN, RST, SYN}
-use Rattle.ix_tcb.specs.Stands.{tcb_of}
+use Rattle.ix_tcpdef.specs.Stands.{tcb_of}
 use Rattle.ix_tcpin.specs.Heads.{ack_head}
 use Rattle.ix_tcpin.specs.Work as at_work
 use Rattle.ix_tcpin.specs.Work.{Onward, Done, replies, ends}

@@ -15,8 +15,8 @@ use Rattle.ix_tcpdef.specs.declared.types.Connection.{Connection}
 use Rattle.ix_tcpdef.specs.declared.types.HeldHead.{HeldHead}
 use Rattle.ix_tcpdef.specs.declared.types.HeldSegment.{HeldSegment}
 use Rattle.ix_tcpdef.specs.declared.types.Octets.{Octets}
-use Rattle.ix_tcb.specs.Stands.{head_of}
-use Rattle.ix_tcb.proofs.NumberLemmas.{counts_ahead, goes_on}
+use Rattle.ix_tcpdef.specs.Stands.{head_of}
+use Rattle.ix_tcpdef.proofs.NumberLemmas.{counts_ahead, goes_on}
 use Rattle.ix_tcpin.specs.declared.text.Octets.{Octets as Places}
 use Rattle.ix_tcpin.specs.Text.{octets_in, is_beside, place_among, head_held}
 

@@ -7,12 +7,11 @@ use Rattle.ix_base.specs.declared.segment.SegHead.{SegHead}
 use Rattle.ix_tcpdef.specs.Numbers.{number, ahead, is_past, is_at_or_past, later}
 use Rattle.ix_tcpdef.specs.Connection.{snd_una, snd_nxt, acked_data, queued, grown, loss_threshold}
 use Rattle.ix_tcpdef.specs.Acknowledgement.{is_duplicate, duplicated, opened_window, advanced, is_newer, unpersisted, windowed, acked}
-use Rattle.ix_tcpdef.proofs.NumberLemmas.{advance_most}
+use Rattle.ix_tcpdef.proofs.NumberLemmas.{advance_most, counts_ahead, tells_apart, finds_position}
 use Rattle.ix_tcpdef.specs.declared.types.Cfg.{Cfg}
 use Rattle.ix_tcpdef.specs.declared.types.Connection.{Connection}
 use Rattle.ix_tcpdef.specs.declared.types.Tcb.{Tcb}
-use Rattle.ix_tcb.specs.Stands.{tcb_of}
-use Rattle.ix_tcb.proofs.NumberLemmas.{counts_ahead, tells_apart, finds_position}
+use Rattle.ix_tcpdef.specs.Stands.{tcb_of}
 use Rattle.ix_tcpin.specs.Acknowledgement.{duplicated_numbers, acked_bytes, advanced_numbers, unpersisted_numbers, windowed_numbers, acked_numbers}
 
 -- what is in flight fits the numbers

@@ -17,7 +17,7 @@ use Rattle.ix_tcpdef.specs.declared.types.Job.{Job}
 use Rattle.ix_tcpdef.specs.declared.types.Output.TheVariants as outputs
 use Rattle.ix_tcpdef.specs.declared.types.Told.TheVariants as told
 use Rattle.ix_tcpdef.specs.declared.types.TheConstants.{ACK, RST, SYN}
-use Rattle.ix_tcb.specs.Stands.{tcb_of, head_of, HasOpened}
+use Rattle.ix_tcpdef.specs.Stands.{tcb_of, head_of, HasOpened}
 use Rattle.ix_tcpin.specs.declared.verdict.Verdict.{Verdict}
 use Rattle.ix_tcpin.specs.Heads.{reset_head, syn_ack_head}
 use Rattle.ix_tcpin.specs.Work as at_work

@@ -26,7 +26,7 @@ use Rattle.ix_tcpdef.specs.declared.types.Octets.{Octets}
 use Rattle.ix_tcpdef.specs.declared.types.Told.{Told}
 use Rattle.ix_tcpdef.specs.declared.types.Told.TheVariants as told
 use Rattle.ix_tcpdef.specs.declared.types.TheConstants.{ACK, FIN, RST, SYN}
-use Rattle.ix_tcb.specs.Stands.{send_queue, HasOpened}
+use Rattle.ix_tcpdef.specs.Stands.{send_queue, HasOpened}
 use Rattle.ix_tcpin.proofs.OpeningLemmas.{start}
 
 -- nothing more was given to be sent, and no less is acknowledged

@@ -14,7 +14,7 @@ use Rattle.ix_tcpdef.specs.declared.types.Output.{Output}
 use Rattle.ix_tcpdef.specs.declared.types.Output.TheVariants as outputs
 use Rattle.ix_tcpdef.specs.declared.types.Piece.{Piece}
 use Rattle.ix_tcpdef.specs.declared.types.Told.{Told}
-use Rattle.ix_tcb.specs.Stands.{tcb_of, head_of}
+use Rattle.ix_tcpdef.specs.Stands.{tcb_of, head_of}
 use Rattle.ix_tcpin.specs.declared.verdict.HeldUse.{HeldUse}
 use Rattle.ix_tcpin.specs.declared.verdict.HeldUse.TheVariants as uses
 use Rattle.ix_tcpin.specs.declared.verdict.Take.TheVariants as takes

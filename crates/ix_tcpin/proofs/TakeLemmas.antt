@@ -26,7 +26,7 @@ use Rattle.ix_tcpdef.specs.declared.types.Tcb.{Tcb}
 use Rattle.ix_tcpdef.specs.declared.types.Told.{Told}
 use Rattle.ix_tcpdef.specs.declared.types.Told.TheVariants as told
 use Rattle.ix_tcpdef.specs.declared.types.TheConstants.{ACK, FIN, RST, SYN}
-use Rattle.ix_tcb.specs.Stands.{tcb_of, head_of, HasOpened}
+use Rattle.ix_tcpdef.specs.Stands.{tcb_of, head_of, HasOpened}
 use Rattle.ix_tcpin.specs.declared.text.Octets.{Octets as Places}
 use Rattle.ix_tcpin.specs.declared.verdict.Take.{Take}
 use Rattle.ix_tcpin.specs.declared.verdict.Take.TheVariants as takes

@@ -29,8 +29,8 @@ use Rattle.ix_tcpdef.specs.declared.types.Tcb.{Tcb}
 use Rattle.ix_tcpdef.specs.declared.types.Told.{Told}
 use Rattle.ix_tcpdef.specs.declared.types.Told.TheVariants as told
 use Rattle.ix_tcpdef.specs.declared.types.TheConstants.{FIN}
-use Rattle.ix_tcb.specs.Stands.{tcb_of, head_of}
-use Rattle.ix_tcb.proofs.NumberLemmas.{goes_on}
+use Rattle.ix_tcpdef.specs.Stands.{tcb_of, head_of}
+use Rattle.ix_tcpdef.proofs.NumberLemmas.{goes_on}
 use Rattle.ix_tcpin.specs.declared.text.Octets.{Octets as Places}
 use Rattle.ix_tcpin.specs.declared.verdict.HeldUse.{HeldUse}
 use Rattle.ix_tcpin.specs.declared.verdict.Take.TheVariants as takes

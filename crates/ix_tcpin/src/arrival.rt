@@ -7,7 +7,7 @@ ghost use Rattle.ix_tcpdef.specs.Sound.{FitsPeer};
 ghost use Rattle.ix_tcpdef.specs.Step.{step};
 ghost use Rattle.ix_tcpdef.specs.declared.types.Connection.{Connection};
 ghost use Rattle.ix_tcpdef.specs.declared.types.Input.TheVariants as inputs;
-ghost use Rattle.ix_tcb.specs.Stands.{tcb_of, send_queue};
+ghost use Rattle.ix_tcpdef.specs.Stands.{tcb_of, send_queue};
 ghost use Rattle.ix_tcpin.specs.Work.{work, work_of};
 ghost use Rattle.ix_tcpin.specs.Verdict.{
   Meets,

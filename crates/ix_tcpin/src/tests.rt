@@ -1,7 +1,6 @@
 use super::{Take, arrive};
 use ix_base::{Flow, SegHead};
-use ix_tcb::unopened;
-use ix_tcpdef::{ACK, BEHIND_HEADER, BEHIND_SYN, Cfg, SYN, State};
+use ix_tcpdef::{ACK, BEHIND_HEADER, BEHIND_SYN, Cfg, SYN, State, unopened};
 
 const FLOW: Flow = Flow {
     remote: 0x0a00_0001,

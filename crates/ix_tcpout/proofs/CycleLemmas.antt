@@ -12,7 +12,7 @@ use Rattle.ix_tcpdef.specs.declared.types.State.TheVariants as st
 use Rattle.ix_tcpdef.specs.declared.types.Connection.{Connection}
 use Rattle.ix_tcpdef.specs.declared.types.Job.{Job}
 use Rattle.ix_tcpdef.specs.declared.types.Input.TheVariants as inputs
-use Rattle.ix_tcb.specs.Stands.{tcb_of, send_queue}
+use Rattle.ix_tcpdef.specs.Stands.{tcb_of, send_queue}
 use Rattle.ix_tcpout.specs.Given.{frame_of, start, has_ended}
 use Rattle.ix_tcpout.specs.Sending.{StandsFor}
 use Rattle.ix_tcpout.specs.Parts.{Work, work, all_parts}

@@ -19,7 +19,7 @@ use Rattle.ix_tcpdef.specs.declared.types.Input.TheVariants as inputs
 use Rattle.ix_tcpdef.specs.declared.types.Output.TheVariants as outputs
 use Rattle.ix_tcpdef.specs.declared.types.Told.TheVariants as told
 use Rattle.ix_tcpdef.specs.declared.types.TheConstants.{ACK}
-use Rattle.ix_tcb.specs.Stands.{tcb_of, send_queue, HasOpened}
+use Rattle.ix_tcpdef.specs.Stands.{tcb_of, send_queue, HasOpened}
 use Rattle.ix_tcpout.specs.Heads.{again_in}
 use Rattle.ix_tcpout.specs.Given.{frame_of, outputs_of, has_ended, start}
 use Rattle.ix_tcpout.specs.Sending.{IsSending}

@@ -5,8 +5,8 @@ use Rattle.std.proofs.lemmas.Grind.{common_steps}
 use Rattle.ix_tcpdef.specs.Frames.{plain_frame, data_frame}
 use Rattle.ix_tcpdef.specs.declared.types.Cfg.{Cfg}
 use Rattle.ix_tcpdef.specs.declared.types.Connection.{Connection}
-use Rattle.ix_tcb.specs.Stands.{tcb_of, send_queue}
-use Rattle.ix_tcb.proofs.NumberLemmas.{goes_on}
+use Rattle.ix_tcpdef.specs.Stands.{tcb_of, send_queue}
+use Rattle.ix_tcpdef.proofs.NumberLemmas.{goes_on}
 use Rattle.ix_tcpout.specs.Heads.{bare, bytes}
 use Rattle.ix_tcpout.specs.Given.{frame_of}
 

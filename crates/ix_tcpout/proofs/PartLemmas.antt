@@ -18,8 +18,8 @@ use Rattle.ix_tcpdef.specs.declared.types.Job.{Job}
 use Rattle.ix_tcpdef.specs.declared.types.Output.{Output}
 use Rattle.ix_tcpdef.specs.declared.types.Tcb.{Tcb}
 use Rattle.ix_tcpdef.specs.declared.types.TheConstants.{ACK, FIN}
-use Rattle.ix_tcb.specs.Stands.{tcb_of, send_queue}
-use Rattle.ix_tcb.proofs.NumberLemmas.{counts_ahead, goes_on}
+use Rattle.ix_tcpdef.specs.Stands.{tcb_of, send_queue}
+use Rattle.ix_tcpdef.proofs.NumberLemmas.{counts_ahead, goes_on}
 use Rattle.ix_tcpout.specs.declared.outs.OutSeg.{OutSeg}
 use Rattle.ix_tcpout.specs.Heads.{bare, again_in}
 use Rattle.ix_tcpout.specs.Given.{frame_of, start}

@@ -8,7 +8,7 @@ use Rattle.ix_tcpdef.specs.declared.types.Cfg.{Cfg}
 use Rattle.ix_tcpdef.specs.declared.types.Connection.{Connection}
 use Rattle.ix_tcpdef.specs.declared.types.Output.{Output}
 use Rattle.ix_tcpdef.specs.declared.types.Tcb.{Tcb}
-use Rattle.ix_tcb.specs.Stands.{tcb_of, send_queue}
+use Rattle.ix_tcpdef.specs.Stands.{tcb_of, send_queue}
 use Rattle.ix_tcpout.specs.Heads.{bytes}
 use Rattle.ix_tcpout.specs.Given.{frame_of}
 use Rattle.ix_tcpout.specs.Parts.{segments}

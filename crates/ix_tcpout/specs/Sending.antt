@@ -4,7 +4,7 @@ use Rattle.ix_tcpdef.specs.Sound.{SendsInOrder}
 use Rattle.ix_tcpdef.specs.Step.{is_alive}
 use Rattle.ix_tcpdef.specs.declared.types.Connection.{Connection}
 use Rattle.ix_tcpdef.specs.declared.types.Job.{Job}
-use Rattle.ix_tcb.specs.Stands.{tcb_of, send_queue}
+use Rattle.ix_tcpdef.specs.Stands.{tcb_of, send_queue}
 use Rattle.ix_tcpout.specs.Given.{frame_of}
 use Rattle.ix_tcpout.specs.Parts.{Work}
 

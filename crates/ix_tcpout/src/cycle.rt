@@ -20,7 +20,7 @@ ghost use Rattle.ix_tcpdef.specs.Sound.{IsKept, FitsPeer};
 ghost use Rattle.ix_tcpdef.specs.Step.{step};
 ghost use Rattle.ix_tcpdef.specs.declared.types.Connection.{Connection};
 ghost use Rattle.ix_tcpdef.specs.declared.types.Input.TheVariants as inputs;
-ghost use Rattle.ix_tcb.specs.Stands.{tcb_of, send_queue};
+ghost use Rattle.ix_tcpdef.specs.Stands.{tcb_of, send_queue};
 ghost use Rattle.ix_tcpout.specs.Given.{outputs_of, has_ended, LiesIn};
 
 use crate::clock::{is_alive, later};

@@ -3,8 +3,7 @@ ghost use Rattle.ix_tcpdef.specs.Sound.{FitsPeer};
 
 use super::{expire, flush};
 use ix_base::Flow;
-use ix_tcb::unopened;
-use ix_tcpdef::{ACK, Cfg, FIN, PSH, State, Tcb, Told};
+use ix_tcpdef::{ACK, Cfg, FIN, PSH, State, Tcb, Told, unopened};
 
 const CFG: Cfg = Cfg {
     window: 1000,

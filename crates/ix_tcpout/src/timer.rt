@@ -7,7 +7,7 @@ ghost use Rattle.ix_tcpdef.specs.Flush.{backed_off as backed_off_of, is_due};
 ghost use Rattle.ix_tcpout.specs.Expiry.{timeout_in, closed, collapse_in, counted, retransmission, probe as probe_part, fired};
 ghost use Rattle.ix_tcpdef.specs.declared.types.Connection.{Connection};
 ghost use Rattle.ix_tcpdef.specs.declared.types.Input.TheVariants as inputs;
-ghost use Rattle.ix_tcb.specs.Stands.{tcb_of, send_queue, HasOpened};
+ghost use Rattle.ix_tcpdef.specs.Stands.{tcb_of, send_queue, HasOpened};
 ghost use Rattle.ix_tcpout.specs.Given.{outputs_of, has_ended, LiesIn};
 
 use crate::clock::{is_alive, later};

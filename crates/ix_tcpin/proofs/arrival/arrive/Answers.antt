@@ -5,7 +5,7 @@ use Rattle.ix_tcpin.specs.Work.{blank}
 use Rattle.ix_tcpin.specs.Verdict.{LiesWithin}
 use Rattle.ix_tcpin.specs.Arrived.{arrived_part}
 use Rattle.ix_tcpin.proofs.ArrivalLemmas.{says-of}
-use Rattle.ix_tcb.specs.Stands.{send_queue}
+use Rattle.ix_tcpdef.specs.Stands.{send_queue}
 use Rattle.ix_tcpin.proofs.QueueLemmas.{queue-left}
 use Rattle.ix_tcpin.proofs.RangeLemmas.{within-arrived}
 use Rattle.ix_tcpin.proofs.TakeLemmas.{taken-of}

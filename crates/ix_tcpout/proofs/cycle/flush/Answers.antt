@@ -5,7 +5,7 @@ use Rattle.ix_tcpdef.specs.Step.{is_alive, step}
 use Rattle.ix_tcpdef.specs.declared.types.Input.TheVariants as inputs
 use Rattle.ix_tcpdef.specs.declared.types.Job.{Job}
 use Rattle.ix_tcpdef.specs.declared.types.Tcb.{Tcb}
-use Rattle.ix_tcb.specs.Stands.{tcb_of, send_queue}
+use Rattle.ix_tcpdef.specs.Stands.{tcb_of, send_queue}
 use Rattle.std.specs.Prelude.{map}
 use Rattle.ix_tcpout.specs.declared.outs.Outs.{Outs}
 use Rattle.ix_tcpout.specs.declared.outs.OutSeg.{OutSeg}

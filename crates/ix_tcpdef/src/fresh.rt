@@ -1,17 +1,12 @@
 // The numbers of a connection before its opening.
 ghost use Rattle.std.specs.Prelude.{◌≡◌};
 ghost use Rattle.ix_tcpdef.specs.Step.{listening};
-ghost use Rattle.ix_tcb.specs.Stands.{tcb_of};
+ghost use Rattle.ix_tcpdef.specs.Stands.{tcb_of};
 
+use crate::opening::{DEFAULT_MSS, FIRST_THRESHOLD};
+use crate::types::{State, Tcb};
 use arrayvec::ArrayVec;
 use ix_base::Flow;
-use ix_tcpdef::{State, Tcb};
-
-/// The slow start threshold of a connection that lost nothing yet.
-const FIRST_THRESHOLD: u32 = 65_535;
-
-/// The send MSS until the peer names one (RFC 9293, section 3.7.1).
-const DEFAULT_MSS: u16 = 536;
 
 /// The numbers of a connection before its opening, with this initial send sequence number.
 pub fn unopened(flow: Flow, peer_mac: [u8; 6], iss: u32) -> Tcb

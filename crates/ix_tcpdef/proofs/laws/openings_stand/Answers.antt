@@ -1,5 +1,5 @@
-use Rattle.ix_tcb.proofs.OpeningLemmas.{begins_opening, steps_open}
-use Rattle.ix_tcb.proofs.laws.openings_stand.Goals as goal
+use Rattle.ix_tcpdef.proofs.OpeningLemmas.{begins_opening, steps_open}
+use Rattle.ix_tcpdef.proofs.laws.openings_stand.Goals as goal
 
 pub returns-clause-begins : goal.returns-clause-begins
 returns-clause-begins c = begins_opening

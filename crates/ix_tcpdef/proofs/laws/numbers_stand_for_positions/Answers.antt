@@ -1,5 +1,5 @@
-use Rattle.ix_tcb.proofs.NumberLemmas.{counts_ahead, tests_past, tests_at_or_past, tells_apart, goes_on, finds_position}
-use Rattle.ix_tcb.proofs.laws.numbers_stand_for_positions.Goals as goal
+use Rattle.ix_tcpdef.proofs.NumberLemmas.{counts_ahead, tests_past, tests_at_or_past, tells_apart, goes_on, finds_position}
+use Rattle.ix_tcpdef.proofs.laws.numbers_stand_for_positions.Goals as goal
 
 pub returns-clause-ahead : goal.returns-clause-ahead
 returns-clause-ahead c = counts_ahead
