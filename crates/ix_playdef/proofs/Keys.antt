@@ -57,6 +57,12 @@ weak-keys = ranks_by total-law (λ (k : ReplyKey). k)
 sorted-derived : (xs : List Reply) → IsSortedByKey key_of key_cmp xs → IsSortedByKey key_of key_ord.ghosts.cmp xs
 sorted-derived xs h k d low up = sym (ap is_lt (key-same (get_or xs (k + 1) d).key (get_or xs k d).key)) ∙ h k d low up
 
+-- None that stands behind a reply comes before it.
+pub none-before : (xs : List Reply) → IsSortedByKey key_of key_cmp xs → (i j : ℕ) (d : Reply) → i ≤ j → j < length xs → is_before (get_or xs j d).key (get_or xs i d).key ≡ false
+none-before xs up i j d le lt =
+    sym (before-same (get_or xs j d).key (get_or xs i d).key)
+    ∙ sorted_far (λ (x y : Reply). is_lt (key_ord.ghosts.cmp x.key y.key)) weak xs (sorted-derived xs up) i j d le lt
+
 -- What comes before a key stands in front of what doesn't.
 not-false : (b : Bool) → (b ≡ false → ⊥) → b ≡ true
 not-false true h = refl
@@ -86,7 +92,7 @@ count-back p xs i (suc n) d within none =
     ∙ count_by_more_no p xs (i + n) d (omega (arith, within)) (none (i + n) (omega arith) (omega (arith, within)))
     ∙ count-back p xs i n d (omega (arith, within)) none
 
-counted : (p : Reply → Bool) (xs : List Reply) (i : ℕ) → i ≤ length xs → IsPartitionPoint (λ r. p r ≡ true) (λ r. p r ≡ false) xs i → i ≡ count_by p xs
+pub counted : (p : Reply → Bool) (xs : List Reply) (i : ℕ) → i ≤ length xs → IsPartitionPoint (λ r. p r ≡ true) (λ r. p r ≡ false) xs i → i ≡ count_by p xs
 counted p [] i le parts = omega (arith, le)
 counted p (x ∷ xs) i le parts =
     let ys : List Reply = x ∷ xs in

@@ -7,3 +7,5 @@ pub mod Short
 pub mod ConnectLaws
 pub mod GroupLaws
 pub mod Keys
+pub mod Distinct
+pub mod Numbers

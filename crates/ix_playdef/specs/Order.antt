@@ -1,6 +1,6 @@
 -- The order of the replies of a play, and their ticks.
-use Rattle.std.specs.Prelude.{ℕ, Bool, count_by, nat_lt, if◌then◌else◌, List, length, slice_index, Option, Some, None}
-use Rattle.std.specs.Ordering.{is_lt, nat_cmp, ordering_then}
+use Rattle.std.specs.Prelude.{ℕ, Bool, count_by, nat_lt, if◌then◌else◌, List, length, map, slice_index, Option, Some, None}
+use Rattle.std.specs.Ordering.{eq_by_cmp, is_lt, nat_cmp, ordering_then}
 use Rattle.std.specs.Option.{option_cmp}
 use Rattle.std.specs.declared.cmp.Ordering.{Ordering}
 use Rattle.ix_base.specs.declared.id.WireNo.{WireNo}
@@ -39,9 +39,16 @@ is_before a b = is_lt (key_cmp a b)
 abbrev pub key_of : Reply → ReplyKey
 key_of r = r.key
 
+abbrev pub same_key : Reply → Reply → Bool
+same_key a b = eq_by_cmp key_cmp a.key b.key
+
 -- The number of a reply is how many replies come before it.
 abbrev pub number_of : List Reply → ReplyKey → ℕ
 number_of replies key = count_by (λ (r : Reply). is_before r.key key) replies
+
+-- the numbers of some replies among all
+abbrev pub numbers_among : List Reply → List Reply → List ℕ
+numbers_among all some = map (λ (r : Reply). number_of all r.key) some
 
 -- The tick of a reply is the clock of its entry, and 0 where it has none.
 abbrev pub tick_at : List Entry → Option WireNo → ℕ

@@ -1,8 +1,9 @@
 // The replies of a play.
 ghost use Rattle.std.specs.Prelude.{◌≡◌, ◌≤◌, ◌<◌, ◌^◌, ◌++◌, All, IfOk, OnOk, length};
+ghost use Rattle.std.specs.List.{IsDistinct, range_with_len};
 ghost use Rattle.std.specs.List.Sorted.{IsPermutation, IsSortedByKey};
 ghost use Rattle.ix_groupdef.specs.Sent.{CanBeWritten};
-ghost use Rattle.ix_playdef.specs.Order.{is_before, key_cmp, key_of, number_of};
+ghost use Rattle.ix_playdef.specs.Order.{is_before, key_cmp, key_of, number_of, numbers_among, same_key};
 ghost use Rattle.ix_playdef.specs.Placed.{placed};
 ghost use Rattle.ix_playdef.specs.Replies.{CanAllBeWritten, FitsGroup, IsShort, IsShortlyAnswered, all_replies, conn_replies, end_at, entry_of, group_replies, input_replies, key_at, opened_replies, phase_of, reply_of, stray_key, stray_reply};
 ghost use Rattle.ix_seg.specs.Written.{frame_bytes};
@@ -114,26 +115,32 @@ fn push_output(
     Ok(())
 }
 
+// The place of a connection: its group, and its opening order, which begins at 1.
+#[derive(Clone, Copy)]
+struct ConnPlace {
+    group: GroupId,
+    opening: usize,
+}
+
 // Adds those of an input.
 #[tactic(auto, using(crate::proofs::Placed::steps))]
 fn push_input(
     alloc: Global,
     local: &Local,
-    group: GroupId,
-    opening: usize,
+    place: ConnPlace,
     ends: &[Option<WireNo>],
     at: usize,
     entry: &JournalEntry,
     replies: &mut Vec<Reply>,
 ) -> Result<(), NoMemory>
     requires { All CanBeWritten entry.now.outputs }
-    ensures replies { OnOk result (replies.new.items ≡ replies.old.items ++ input_replies local.now group.0 opening ends.now at entry.now) }
+    ensures replies { OnOk result (replies.new.items ≡ replies.old.items ++ input_replies local.now place.group.0 place.opening ends.now at entry.now) }
     ensures short { All IsShort replies.old.items → OnOk result (All IsShort replies.new.items) }
 {
     let end = end_at(ends, at);
     let outputs = entry.outputs.as_slice();
     for i in 0..outputs.len() {
-        let key = key_at(group, opening, at, &entry.input, end, i);
+        let key = key_at(place.group, place.opening, at, &entry.input, end, i);
         push_output(alloc, local, key, &outputs[i], replies)?;
     }
     Ok(())
@@ -144,19 +151,18 @@ fn push_input(
 fn push_conn(
     alloc: Global,
     local: &Local,
-    group: GroupId,
-    opening: usize,
+    place: ConnPlace,
     conn: &ConnEnd,
     replies: &mut Vec<Reply>,
 ) -> Result<(), NoMemory>
     requires { CanAllBeWritten conn.now }
-    ensures replies { OnOk result (replies.new.items ≡ replies.old.items ++ conn_replies local.now group.0 opening conn.now) }
+    ensures replies { OnOk result (replies.new.items ≡ replies.old.items ++ conn_replies local.now place.group.0 place.opening conn.now) }
     ensures short { All IsShort replies.old.items → OnOk result (All IsShort replies.new.items) }
 {
     let journal = conn.journal.as_slice();
     let ends = conn.ends.as_slice();
     for i in 0..journal.len() {
-        push_input(alloc, local, group, opening, ends, i, &journal[i], replies)?;
+        push_input(alloc, local, place, ends, i, &journal[i], replies)?;
     }
     Ok(())
 }
@@ -213,7 +219,11 @@ fn push_conns(
     ensures short { All IsShort replies.old.items → OnOk result (All IsShort replies.new.items) }
 {
     for i in 0..conns.len() {
-        push_conn(alloc, local, group, i + 1, &conns[i], replies)?;
+        let place = ConnPlace {
+            group,
+            opening: i + 1,
+        };
+        push_conn(alloc, local, place, &conns[i], replies)?;
     }
     Ok(())
 }
@@ -253,7 +263,8 @@ fn push_groups(
     Ok(())
 }
 
-/// The replies of what the groups of a play leave, in their order.
+/// The replies of what the groups of a play leave, in their order. No two of them have one key, and so the number of each is its place.
+#[tactic(auto, using(crate::proofs::Numbers::for_replies))]
 pub fn replies_of(
     alloc: Global,
     local: &Local,
@@ -263,6 +274,8 @@ pub fn replies_of(
     requires fit { All FitsGroup records.now }
     ensures same { IfOk result (λ replies. IsPermutation (all_replies local.now records.now) replies.items) }
     ensures order { IfOk result (λ replies. IsSortedByKey key_of key_cmp replies.items) }
+    ensures distinct { IfOk result (λ replies. IsDistinct same_key replies.items) }
+    ensures numbers { IfOk result (λ replies. numbers_among replies.items replies.items ≡ range_with_len 0 (length replies.items)) }
     ensures short { IfOk result (λ replies. All IsShort replies.items) }
 {
     let mut replies = Vec::new(alloc);

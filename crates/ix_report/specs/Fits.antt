@@ -1,16 +1,18 @@
 -- Whether a report is that of a play on one core, where every frame of at most 2,048 bytes is accepted.
 use Rattle.std.specs.Prelude.{◌≡◌, ℕ, Bool, false, List, length, count_by, nat_lt, slice_get, Option, Some, None}
+use Rattle.std.specs.List.{range_with_len}
 use Rattle.std.specs.List.Sorted.{IsPermutation, IsSortedByKey}
 use Rattle.std.specs.Ordering.{nat_cmp}
 use Rattle.ix_conf.specs.Settings.{Settings}
 use Rattle.ix_wire.specs.declared.entry.Entry.{Entry}
 use Rattle.ix_wire.specs.declared.entry.Entry.TheVariants as entries
 use Rattle.ix_playdef.specs.Groups.{AreRecords}
-use Rattle.ix_playdef.specs.Order.{key_cmp, key_of}
+use Rattle.ix_playdef.specs.Order.{key_cmp, key_of, numbers_among}
 use Rattle.ix_playdef.specs.Own.{local_of}
 use Rattle.ix_playdef.specs.Replies.{all_replies}
 use Rattle.ix_playdef.specs.declared.wire.TheConstants.{MAX_FRAME}
 use Rattle.ix_report.specs.Lines.{all_strays, wire_of}
+use Rattle.ix_report.specs.Named.{NamesEachOnce}
 use Rattle.ix_report.specs.declared.report.Report.{Report}
 
 -- a frame is dropped exactly where it is too long
@@ -28,6 +30,9 @@ pub record Fits (s : Settings) (frames : List (List ℕ)) (entries : List Entry)
   -- The replies are the frames that connections and strays give, each once, in the order of their keys.
   pub replies : IsPermutation (all_replies (local_of s) r.groups) r.replies
   pub order : IsSortedByKey key_of key_cmp r.replies
+  -- The number of each is its place among them, counted from 0, and the lines name each once.
+  pub numbered : numbers_among r.replies r.replies ≡ range_with_len 0 (length r.replies)
+  pub once : NamesEachOnce r
   -- The strays are those of all groups, each once, by rising wire number, with the numbers of their replies.
   pub strays : IsPermutation (all_strays r.replies r.groups) r.strays
   pub rising : IsSortedByKey wire_of nat_cmp r.strays

@@ -5,6 +5,6 @@ use Rattle.ix_playdef.proofs.replies.push_conn.Given as goal
 
 abbrev pub invariant-loop-i : goal.invariant-loop-i
 invariant-loop-i l = record {
-  replies : l.replies.items ++ placed (input_replies l.local l.group.0 l.opening l.ends) l.i (drop l.i l.journal) ≡ l.fn.replies.items ++ conn_replies l.local l.group.0 l.opening l.conn;
+  replies : l.replies.items ++ placed (input_replies l.local l.place.group.0 l.place.opening l.ends) l.i (drop l.i l.journal) ≡ l.fn.replies.items ++ conn_replies l.local l.place.group.0 l.place.opening l.conn;
   short : All IsShort l.fn.replies.items → All IsShort l.replies.items;
 }

@@ -5,6 +5,6 @@ use Rattle.ix_playdef.proofs.replies.push_input.Given as goal
 
 abbrev pub invariant-loop-i : goal.invariant-loop-i
 invariant-loop-i l = record {
-  replies : l.replies.items ++ placed (λ output o. reply_of l.local (key_at l.group.0 l.opening l.at l.entry.input l.end output) o) l.i (drop l.i l.outputs) ≡ l.fn.replies.items ++ input_replies l.local l.group.0 l.opening l.ends l.at l.entry;
+  replies : l.replies.items ++ placed (λ output o. reply_of l.local (key_at l.place.group.0 l.place.opening l.at l.entry.input l.end output) o) l.i (drop l.i l.outputs) ≡ l.fn.replies.items ++ input_replies l.local l.place.group.0 l.place.opening l.ends l.at l.entry;
   short : All IsShort l.fn.replies.items → All IsShort l.replies.items;
 }

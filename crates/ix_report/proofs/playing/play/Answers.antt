@@ -1,0 +1,18 @@
+use Rattle.std.proofs.Common.{rules}
+use Rattle.ix_conf.specs.Settings.{settings_of}
+use Rattle.ix_playdef.specs.Own.{local_of}
+use Rattle.ix_report.proofs.NamedLaws.{named-once}
+use Rattle.ix_report.proofs.playing.play.Goals as goal
+
+pub returns-clause-fits : goal.returns-clause-fits
+returns-clause-fits c =
+    record {
+      groups = search rules;
+      replies = search rules;
+      order = search rules;
+      numbered = search rules;
+      once = named-once (local_of (settings_of c.args.conf.now)) _ (search rules) (search rules) (search rules);
+      strays = search rules;
+      rising = search rules;
+      drops = search rules;
+    }
