@@ -2,7 +2,7 @@
 use Rattle.std.proofs.Common.{◌≡◌, ℕ, ◌+◌, ◌<◌, ◌≤◌, refl, sym, ap, ◌∙◌, subst, Bool, true, false, List, [], ◌∷◌, ◌++◌, length, get_or, take, arith, append_assoc, append-nil, length-append, inl, inr}
 use Rattle.std.specs.Prelude.{if◌then◌else◌, cond, ◌==◌, ◌&&◌, not, count_by, filter, Option, Some, None}
 use Rattle.std.specs.List.{list_any}
-use Rattle.std.proofs.lemmas.Bool.{cases_eq, or_parts, or_from, false_from_ne_true}
+use Rattle.std.proofs.lemmas.Bool.{and_parts, cases_eq, eqb-true, or_parts, or_from, false_from_ne_true}
 use Rattle.std.proofs.lemmas.Bool.Decides.{nat_tests}
 use Rattle.std.proofs.lemmas.List.{take_more, take_all, take-append-le, get_or_append_left}
 use Rattle.std.proofs.lemmas.List.Elements.{filter_more}
@@ -15,7 +15,6 @@ use Rattle.ix_groupdef.specs.Flow.{same_flow}
 use Rattle.ix_groupdef.specs.Life.{Life, lives, hears, given}
 use Rattle.ix_groupdef.specs.Group.{Group, Connect, has_room, dialled, turn_of, connect_to, connect, connect_all, flow_of_connect, empty}
 use Rattle.ix_groupdef.specs.Setting.{Setting, mac_of}
-use Rattle.ix_groupdef.proofs.OnePerFlow.{same-equal}
 use Rattle.ix_playdef.specs.Connects.{port_behind, connect_behind, connects_from, flow_asked, same_asked, same_peer, AreApart}
 
 -- ## Peer by peer
@@ -63,14 +62,27 @@ other-port earlier later p q e f same =
     let counts : count_by (same_peer p) earlier ≡ count_by (same_peer q) earlier = ap (λ (r : ℕ × ℕ). count_by (same_peer r) earlier) pq in
     omega arith
 
+-- what one flow has of another
+record SameEnds (f g : Flow) : Type 0 where
+  remote : f.remote ≡ g.remote
+  remote_port : f.remote_port ≡ g.remote_port
+  local_port : f.local_port ≡ g.local_port
+
+same-ends : (f g : Flow) → same_flow f g ≡ true → SameEnds f g
+same-ends f g e =
+    let ports = and_parts ((f.remote == g.remote) && (f.local == g.local) && (f.remote_port == g.remote_port)) (f.local_port == g.local_port) e in
+    let peers = and_parts ((f.remote == g.remote) && (f.local == g.local)) (f.remote_port == g.remote_port) ports.0 in
+    let addresses = and_parts (f.remote == g.remote) (f.local == g.local) peers.0 in
+    record { remote = eqb-true f.remote g.remote addresses.0; remote_port = eqb-true f.remote_port g.remote_port peers.1; local_port = eqb-true f.local_port g.local_port ports.1 }
+
 -- A connect behind others asks for a flow that none of them asks for.
 fresh-behind : (ip : ℕ) (earlier later : List (ℕ × ℕ)) (p : ℕ × ℕ) → list_any (same_asked ip (connect_behind (earlier ++ later) p)) (connects_from earlier later) ≡ false
 fresh-behind ip earlier [] p = refl
 fresh-behind ip earlier (q ∷ later) p =
     let here : same_asked ip (connect_behind (earlier ++ q ∷ later) p) (connect_behind earlier q) ≡ false =
     false_from_ne_true _ (λ e.
-    let f : flow_asked ip (connect_behind (earlier ++ q ∷ later) p) ≡ flow_asked ip (connect_behind earlier q) = same-equal _ _ e in
-    other-port earlier later p q (ap (λ (x : Flow). x.remote) f) (ap (λ (x : Flow). x.remote_port) f) (ap (λ (x : Flow). x.local_port) f)) in
+    let same : SameEnds (flow_asked ip (connect_behind (earlier ++ q ∷ later) p)) (flow_asked ip (connect_behind earlier q)) = same-ends _ _ e in
+    other-port earlier later p q same.remote same.remote_port same.local_port) in
     or_from _ _ here
     (ap (λ es. list_any (same_asked ip (connect_behind es p)) (connects_from (earlier ++ q ∷ []) later)) (sym (append_assoc earlier (q ∷ []) later))
     ∙ fresh-behind ip (earlier ++ q ∷ []) later p)

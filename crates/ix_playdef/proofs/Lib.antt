@@ -4,7 +4,9 @@ pub mod Ticks
 pub mod Cycles
 pub mod Placed
 pub mod Short
+pub mod FitLaws
 pub mod ConnectLaws
+pub mod AnswerLaws
 pub mod GroupLaws
 pub mod Keys
 pub mod Distinct

@@ -21,16 +21,15 @@ use Rattle.ix_groupdef.specs.Setting.{Setting}
 use Rattle.ix_groupdef.specs.Strays.{echo_in, echoed, frame_of_head, is_served, reply_to, reset_for, reset_head}
 use Rattle.ix_groupdef.specs.StrayFrames.{AreStraysOf, BecomesAs}
 use Rattle.ix_ip.specs.Header.{ip_header}
-use Rattle.ix_ip.specs.Packet.{Packet, packet_of}
+use Rattle.ix_ip.specs.Packet.{Packet, PayloadsLieWithin, packet_of}
+use Rattle.ix_ip.specs.Sum.{transport_sum_of}
 use Rattle.ix_ip.specs.declared.packet.IpFault.{IpFault}
 use Rattle.ix_seg.specs.Frame.{named_segment, segment_of_ethernet, segment_of_frame, segment_of_packet, segment_of_read, segment_of_view}
 use Rattle.ix_seg.specs.Segment.{Segment, segment_of}
-use Rattle.ix_seg.specs.Written.{frame_bytes, mss_option, segment_bytes}
+use Rattle.ix_seg.specs.Written.{frame_bytes, mss_option, segment_bytes, segment_with, tcp_header_with}
 use Rattle.ix_seg.specs.declared.segment.SegFault.{SegFault}
-use Rattle.ix_seg.proofs.WrittenLaws.{length-segment_bytes}
 use Rattle.ix_side.specs.Echo.{datagram_len, datagram_of, icmp_answer, icmp_reply, udp_answer, udp_reply}
 use Rattle.ix_side.specs.Side.{side_of}
-use Rattle.ix_side.proofs.SideLaws.{packet_within}
 use Rattle.ix_tcpdef.specs.Numbers.{has_flag}
 use Rattle.ix_tcpdef.specs.declared.types.TheConstants.{ACK, RST}
 use Rattle.ix_playdef.specs.Replies.{IsShortIfAny, IsShortlyAnswered}
@@ -58,11 +57,15 @@ framed-long dst src rest kind s d protocol total ld ls =
     omega (arith, length-append (ethernet_header dst src kind) (ip_header s d protocol total ++ rest), length-append (ip_header s d protocol total) rest, length-ip_header s d protocol total, header-long dst src kind ld ls)
 
 -- ## Resets
+-- a header of 20 bytes alone
+bare-long : (h : SegHead) → h.mss ≡ None → length (segment_bytes h []) ≡ 20
+unfolding segment_bytes
+bare-long h none = ap (λ o. length (tcp_header_with h (transport_sum_of h.flow.local h.flow.remote 6 (segment_with h [] 0)) ++ mss_option o ++ [])) none
+
 frame-short : (h : SegHead) (local : Local) → h.mss ≡ None → length h.peer_mac ≤ 6 → length local.mac ≤ 6 → length (frame_bytes h local []) < 2 ^ 32
 unfolding frame_bytes
 frame-short h local none p m =
-    let bare : length (segment_bytes h []) ≡ 20 = length-segment_bytes h [] ∙ ap (λ o. 20 + length (mss_option o) + 0) none in
-    small _ (omega (arith, framed-long h.peer_mac local.mac (segment_bytes h []) 0x0800 h.flow.local h.flow.remote 6 (20 + length (segment_bytes h [])) p m, bare))
+    small _ (omega (arith, framed-long h.peer_mac local.mac (segment_bytes h []) 0x0800 h.flow.local h.flow.remote 6 (20 + length (segment_bytes h [])) p m, bare-long h none))
 
 -- what a head has that a reset is made of
 record IsReset (h : SegHead) : Type 0 where
@@ -171,16 +174,16 @@ udp-long : (src dst : ℕ) (d : List ℕ) → length (udp_reply src dst d) ≤ 8
 unfolding udp_reply
 udp-long src dst d = omega (arith, length-drop 8 d)
 
-icmp-short : (local : Local) (frame : List ℕ) (e : Ethernet) (p : Packet) → length local.mac ≤ 6 → length frame ≤ 2048 → ArePartsOf frame e → packet_of e.rest ≡ Ok p
+icmp-short : PayloadsLieWithin → (local : Local) (frame : List ℕ) (e : Ethernet) (p : Packet) → length local.mac ≤ 6 → length frame ≤ 2048 → ArePartsOf frame e → packet_of e.rest ≡ Ok p
     → length (icmp_answer e p local) < 2 ^ 32
-icmp-short local frame e p m f is read =
-    small _ (omega (arith, framed-long e.src local.mac (icmp_reply p.payload) 0x0800 local.ip p.src 1 (20 + length (icmp_reply p.payload)) is.src m, icmp-long p.payload, packet_within e.rest p read, is.rest, f))
+icmp-short within local frame e p m f is read =
+    small _ (omega (arith, framed-long e.src local.mac (icmp_reply p.payload) 0x0800 local.ip p.src 1 (20 + length (icmp_reply p.payload)) is.src m, icmp-long p.payload, within e.rest p read, is.rest, f))
 
-udp-short : (local : Local) (frame : List ℕ) (e : Ethernet) (p : Packet) → length local.mac ≤ 6 → length frame ≤ 2048 → ArePartsOf frame e → packet_of e.rest ≡ Ok p
+udp-short : PayloadsLieWithin → (local : Local) (frame : List ℕ) (e : Ethernet) (p : Packet) → length local.mac ≤ 6 → length frame ≤ 2048 → ArePartsOf frame e → packet_of e.rest ≡ Ok p
     → length (udp_answer e p local) < 2 ^ 32
-udp-short local frame e p m f is read =
+udp-short within local frame e p m f is read =
     let reply : List ℕ = udp_reply local.ip p.src (datagram_of p.payload) in
-    small _ (omega (arith, framed-long e.src local.mac reply 0x0800 local.ip p.src 17 (20 + length reply) is.src m, udp-long local.ip p.src (datagram_of p.payload), length-take (datagram_len p.payload) p.payload, packet_within e.rest p read, is.rest, f))
+    small _ (omega (arith, framed-long e.src local.mac reply 0x0800 local.ip p.src 17 (20 + length reply) is.src m, udp-long local.ip p.src (datagram_of p.payload), length-take (datagram_len p.payload) p.payload, within e.rest p read, is.rest, f))
 
 abbrev IsShortEcho : (Ethernet → Packet → Local → List ℕ) → Local → List ℕ → Type 0
 IsShortEcho answer local frame = (e : Ethernet) (p : Packet) → ArePartsOf frame e → packet_of e.rest ≡ Ok p → length (answer e p local) < 2 ^ 32
@@ -195,39 +198,39 @@ echo-any : (answer : Ethernet → Packet → Local → List ℕ) (local : Local)
 echo-any answer local frame None short is = tt
 echo-any answer local frame (Some e) short is = echo-in answer local frame e (packet_of e.rest) short is refl
 
-other-short : (local : Local) (kind : Disposition) (frame : List ℕ) → length local.mac ≤ 6 → length frame ≤ 2048 → IsShortIfAny (reply_to local kind frame)
-other-short local kinds.Arp frame m f = arp-any local (ethernet_of frame) m
-other-short local kinds.IcmpEcho frame m f = echo-any icmp_answer local frame (ethernet_of frame) (λ e p is read. icmp-short local frame e p m f is read) (parts-of frame)
-other-short local kinds.UdpEcho frame m f = echo-any udp_answer local frame (ethernet_of frame) (λ e p is read. udp-short local frame e p m f is read) (parts-of frame)
-other-short local kinds.NotIp frame m f = tt
-other-short local kinds.NotOurs frame m f = tt
-other-short local kinds.BadIpShort frame m f = tt
-other-short local kinds.BadIpVersion frame m f = tt
-other-short local kinds.BadIpLength frame m f = tt
-other-short local kinds.BadIpSum frame m f = tt
-other-short local kinds.BadIpFragment frame m f = tt
-other-short local kinds.NotTcp frame m f = tt
-other-short local kinds.BadTcpShort frame m f = tt
-other-short local kinds.BadTcpOffset frame m f = tt
-other-short local kinds.BadTcpSum frame m f = tt
-other-short local kinds.Closed frame m f = tt
-other-short local kinds.Full frame m f = tt
+other-short : PayloadsLieWithin → (local : Local) (kind : Disposition) (frame : List ℕ) → length local.mac ≤ 6 → length frame ≤ 2048 → IsShortIfAny (reply_to local kind frame)
+other-short within local kinds.Arp frame m f = arp-any local (ethernet_of frame) m
+other-short within local kinds.IcmpEcho frame m f = echo-any icmp_answer local frame (ethernet_of frame) (λ e p is read. icmp-short within local frame e p m f is read) (parts-of frame)
+other-short within local kinds.UdpEcho frame m f = echo-any udp_answer local frame (ethernet_of frame) (λ e p is read. udp-short within local frame e p m f is read) (parts-of frame)
+other-short within local kinds.NotIp frame m f = tt
+other-short within local kinds.NotOurs frame m f = tt
+other-short within local kinds.BadIpShort frame m f = tt
+other-short within local kinds.BadIpVersion frame m f = tt
+other-short within local kinds.BadIpLength frame m f = tt
+other-short within local kinds.BadIpSum frame m f = tt
+other-short within local kinds.BadIpFragment frame m f = tt
+other-short within local kinds.NotTcp frame m f = tt
+other-short within local kinds.BadTcpShort frame m f = tt
+other-short within local kinds.BadTcpOffset frame m f = tt
+other-short within local kinds.BadTcpSum frame m f = tt
+other-short within local kinds.Closed frame m f = tt
+other-short within local kinds.Full frame m f = tt
 
 -- ## Strays
-short-as : (env : Setting) (t : Taken) (r : Result Seg Disposition) (stray : Stray) → length env.local.mac ≤ 6 → length t.frame ≤ 2048 → IfOk r HasMac
+short-as : PayloadsLieWithin → (env : Setting) (t : Taken) (r : Result Seg Disposition) (stray : Stray) → length env.local.mac ≤ 6 → length t.frame ≤ 2048 → IfOk r HasMac
     → BecomesAs env t r stray → IsShortlyAnswered stray
-short-as env t (Ok s) stray m f mac is = subst IsShortIfAny (sym is.1) (any-reset env (reset_for env s.head) m (resets-are env s.head mac))
-short-as env t (Err kind) stray m f mac is = subst IsShortIfAny (sym is.1) (other-short env.local kind t.frame m f)
+short-as within env t (Ok s) stray m f mac is = subst IsShortIfAny (sym is.1) (any-reset env (reset_for env s.head) m (resets-are env s.head mac))
+short-as within env t (Err kind) stray m f mac is = subst IsShortIfAny (sym is.1) (other-short within env.local kind t.frame m f)
 
-pub strays-short : (env : Setting) (ss : List Stray) (ts : List Taken) → length env.local.mac ≤ 6 → All (λ (t : Taken). length t.frame ≤ 2048) ts
+pub strays-short : PayloadsLieWithin → (env : Setting) (ss : List Stray) (ts : List Taken) → length env.local.mac ≤ 6 → All (λ (t : Taken). length t.frame ≤ 2048) ts
     → AreStraysOf env ss ts → All IsShortlyAnswered ss
-strays-short env [] ts m all are = All-nil IsShortlyAnswered
-strays-short env (s ∷ ss) [] m all are = absurd are
-strays-short env (s ∷ ss) (t ∷ ts) m all (inl are) =
+strays-short within env [] ts m all are = All-nil IsShortlyAnswered
+strays-short within env (s ∷ ss) [] m all are = absurd are
+strays-short within env (s ∷ ss) (t ∷ ts) m all (inl are) =
     All-cons IsShortlyAnswered s ss
-    (short-as env t (read_of env t.frame) s m (all 0 t (omega arith)) (mac-frame side_of env.local env.check t.frame) are.0.fate)
-    (strays-short env ss ts m (λ k d h. all (suc k) d (omega arith)) are.1)
-strays-short env (s ∷ ss) (t ∷ ts) m all (inr are) = strays-short env (s ∷ ss) ts m (λ k d h. all (suc k) d (omega arith)) are
+    (short-as within env t (read_of env t.frame) s m (all 0 t (omega arith)) (mac-frame side_of env.local env.check t.frame) are.0.fate)
+    (strays-short within env ss ts m (λ k d h. all (suc k) d (omega arith)) are.1)
+strays-short within env (s ∷ ss) (t ∷ ts) m all (inr are) = strays-short within env (s ∷ ss) ts m (λ k d h. all (suc k) d (omega arith)) are
 
 -- ## The frames of a play's cycles
 abbrev pub IsTaken : Taken → Type 0

@@ -1,13 +1,16 @@
 -- The connects of an application that pushes, on core 0 before the first entry.
-use Rattle.std.specs.Prelude.{◌≡◌, ℕ, ◌+◌, ◌<◌, Bool, false, ◌==◌, ◌&&◌, if◌then◌else◌, List, [], ◌∷◌, ◌++◌, length, slice_index_or, take, count_by, filter}
+use Rattle.std.specs.Prelude.{◌≡◌, ℕ, ◌+◌, ◌<◌, Bool, false, ◌==◌, ◌&&◌, if◌then◌else◌, List, [], ◌∷◌, ◌++◌, length, slice_index_or, take, map, count_by, filter, Option, Some, None}
 use Rattle.std.specs.List.{list_any}
 use Rattle.ix_base.specs.declared.id.CoreId.{CoreId}
 use Rattle.ix_base.specs.declared.id.Flow.{Flow}
+use Rattle.ix_base.specs.declared.segment.Ret.{Ret}
+use Rattle.ix_base.specs.declared.segment.Ret.TheVariants as rets
 use Rattle.ix_conf.specs.Settings.{Settings}
 use Rattle.ix_groupdef.specs.Flow.{same_flow}
-use Rattle.ix_groupdef.specs.Group.{Connect}
+use Rattle.ix_groupdef.specs.Group.{Connect, answer_to_connect, connect_all, empty}
+use Rattle.ix_groupdef.specs.Setting.{Setting, mac_of}
 use Rattle.ix_hash.specs.Group.{group_of_flow}
-use Rattle.ix_playdef.specs.Setting.{is_push}
+use Rattle.ix_playdef.specs.Setting.{is_push, setting_of_play}
 
 abbrev pub core0 : CoreId
 core0 = record { 0 = 0 }
@@ -48,6 +51,34 @@ is_asked_in ip group c = group_of_flow (flow_asked ip c) == group
 -- those whose flows are of a group
 abbrev pub connects_in : Settings → ℕ → List Connect
 connects_in s group = filter (is_asked_in s.ip group) (connects_of s)
+
+-- ## What becomes of each
+-- The answer to a connect behind earlier ones: of the group of its flow, after those of them whose flows are of that group.
+abbrev pub answer_behind : Setting → List Connect → Connect → Ret
+answer_behind env earlier c =
+    let group : ℕ = group_of_flow (flow_asked env.local.ip c) in
+    answer_to_connect (mac_of c.ip env.neighbours) (connect_all env (filter (is_asked_in env.local.ip group) earlier) empty).lives
+
+-- those to some connects, behind earlier ones
+abbrev pub answers_from : Setting → List Connect → List Connect → List Ret
+answers_from env earlier [] = []
+answers_from env earlier (c ∷ cs) = answer_behind env earlier c ∷ answers_from env (earlier ++ c ∷ []) cs
+
+-- in the order of the peers
+abbrev pub connect_answers : Settings → List (List ℕ) → List Ret
+connect_answers s frames = answers_from (setting_of_play s frames) [] (connects_of s)
+
+-- by the neighbour of its peer, where its group has room
+abbrev pub answer_with_room : Option (List ℕ) → Ret
+answer_with_room None = rets.NoNeighbour
+answer_with_room (Some mac) = rets.Done 0
+
+abbrev pub answer_to_peer : List (ℕ × List ℕ) → (ℕ × ℕ) → Ret
+answer_to_peer neighbours peer = answer_with_room (mac_of peer.0 neighbours)
+
+-- where every group has room
+abbrev pub answers_with_room : Settings → List Ret
+answers_with_room s = if is_push s.app then map (answer_to_peer s.neighbours) s.peers else []
 
 -- ## Each asks for a flow of its own
 abbrev pub same_asked : ℕ → Connect → Connect → Bool

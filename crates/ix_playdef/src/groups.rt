@@ -1,10 +1,11 @@
 // What the groups of a play leave.
-ghost use Rattle.std.specs.Prelude.{◌≡◌, ◌≤◌, ◌^◌, All, IfOk, filter, length};
+ghost use Rattle.std.specs.Prelude.{◌≡◌, ◌<◌, ◌^◌, All, IfOk, length};
 ghost use Rattle.ix_conf.specs.Settings.{settings_of};
 ghost use Rattle.ix_groupdef.specs.Env.{setting_of};
 ghost use Rattle.ix_pcap.specs.Capture.{IsSpanOf, frames_of};
 ghost use Rattle.ix_tcpdef.specs.Sound.{IsInRange};
 ghost use Rattle.ix_playdef.specs.Connects.{AreApart};
+ghost use Rattle.ix_playdef.specs.Replies.{FitsGroup};
 ghost use Rattle.ix_playdef.specs.Groups.{record_given, AreRecordsGiven, AreRecords};
 
 use crate::connects::{PushConnect, connect_in, connects_of};
@@ -14,7 +15,8 @@ use crate::wire::{GROUPS, Given, entries_by_group};
 use ix_appdef::Application;
 use ix_base::{CoreId, GroupId, List, NoMemory};
 use ix_conf::Conf;
-use ix_groupdef::{Env, GroupRecord, PlainGroup};
+use ix_groupdef::{Env, GroupRecord, PlainGroup, groups_are_sound};
+use ix_ip::payloads_lie_within;
 use ix_pcap::Capture;
 use ix_wire::Entry;
 use std::alloc::Global;
@@ -69,10 +71,15 @@ pub fn group_records(
     entries: &[Entry],
 ) -> Result<Vec<GroupRecord>, NoMemory>
     requires spans { All (IsSpanOf bytes.now) capture.now }
-    requires numbers { length entries.now ≤ 2 ^ 32 }
+    requires numbers { length entries.now < 2 ^ 32 }
     ensures groups { IfOk result (λ records. length records.items ≡ 512) }
     ensures each { IfOk result (λ records. AreRecords (settings_of conf.now) (frames_of bytes.now capture.now) entries.now records.items) }
+
+    // What each leaves can be written.
+    ensures fit { IfOk result (λ records. All FitsGroup records.items) }
 {
+    groups_are_sound();
+    payloads_lie_within();
     let env = env_of(alloc, conf, bytes, capture)?;
     let connects = connects_of(alloc, conf)?;
     let lists = entries_by_group(alloc, bytes, capture, entries)?;

@@ -14,6 +14,7 @@ mod tests;
 mod wire;
 
 pub use clock::clocks_of;
+pub use connects::connect_answers;
 pub use groups::group_records;
 pub use order::{Phase, Reply, ReplyKey, in_order, sent_at};
 pub use own::{initial_numbers, is_own, local_of};

@@ -1,5 +1,5 @@
 // What the groups of a play are told.
-ghost use Rattle.std.specs.Prelude.{◌≡◌, All, IfOk};
+ghost use Rattle.std.specs.Prelude.{◌≡◌, All, IfOk, length};
 ghost use Rattle.ix_conf.specs.Settings.{settings_of};
 ghost use Rattle.ix_groupdef.specs.Env.{setting_of};
 ghost use Rattle.ix_pcap.specs.Capture.{IsSpanOf, frames_of};
@@ -49,8 +49,8 @@ pub fn is_push(kind: AppKind) -> bool
     matches!(kind, AppKind::Push)
 }
 
-// The neighbours of a configuration.
-fn neighbours_of(alloc: Global, conf: &Conf) -> Result<Neighbours, NoMemory>
+/// The neighbours of a configuration.
+pub fn neighbours_of(alloc: Global, conf: &Conf) -> Result<Neighbours, NoMemory>
     ensures { IfOk result (λ neighbours. neighbours ≡ (settings_of conf.now).neighbours) }
 {
     let pairs = Vec::from_slice(alloc, conf.neighbours.as_slice())?;
@@ -67,6 +67,7 @@ pub fn env_of(
     requires { All (IsSpanOf bytes.now) capture.now }
     ensures setting { IfOk result (λ env. setting_of env ≡ setting_of_play (settings_of conf.now) (frames_of bytes.now capture.now)) }
     ensures range { IfOk result (λ env. IsInRange env.cfg) }
+    ensures mac { IfOk result (λ env. length env.local.mac ≡ 6) }
 {
     let local = local_of(conf);
     let isns = initial_numbers(alloc, &local, bytes, capture)?;

@@ -1,5 +1,5 @@
 // What each flow group is given of a wire list.
-ghost use Rattle.std.specs.Prelude.{◌≡◌, ◌<◌, ◌≤◌, ◌^◌, All, IfOk, OnOk, length};
+ghost use Rattle.std.specs.Prelude.{◌≡◌, ◌<◌, ◌^◌, All, IfOk, OnOk, length};
 ghost use Rattle.ix_pcap.specs.Capture.{IsSpanOf, frames_of};
 ghost use Rattle.ix_seg.specs.Frame.{flow_of_frame};
 ghost use Rattle.ix_ip.specs.Packet.{flow_of_packet};
@@ -73,7 +73,6 @@ pub fn group_of_frame(frame: &[u8]) -> GroupId
 }
 
 // Gives a frame to its group.
-
 fn give_frame(
     alloc: Global,
     w: WireNo,
@@ -133,7 +132,6 @@ fn give(
 }
 
 // An empty list for each group.
-
 fn empty_lists(alloc: Global) -> Result<Vec<List<Given>>, NoMemory>
     ensures count { IfOk result (λ lists. length lists.items ≡ 512) }
     ensures empty { IfOk result (λ lists. AreEmpty lists.items) }
@@ -155,7 +153,7 @@ fn give_all(
     lists: &mut [List<Given>],
 ) -> Result<(), NoMemory>
     requires spans { All (IsSpanOf bytes.now) spans.now }
-    requires numbers { length entries.now ≤ 2 ^ 32 }
+    requires numbers { length entries.now < 2 ^ 32 }
     requires groups { length lists.old ≡ 512 }
     requires empty { AreEmpty lists.old }
     ensures { OnOk result (AreGiven (frames_of bytes.now spans.now) entries.now lists.new) }
@@ -175,7 +173,7 @@ pub fn entries_by_group(
     entries: &[Entry],
 ) -> Result<Vec<List<Given>>, NoMemory>
     requires spans { All (IsSpanOf bytes.now) capture.now }
-    requires numbers { length entries.now ≤ 2 ^ 32 }
+    requires numbers { length entries.now < 2 ^ 32 }
     ensures groups { IfOk result (λ lists. length lists.items ≡ 512) }
     ensures given { IfOk result (λ lists. AreGiven (frames_of bytes.now capture.now) entries.now lists.items) }
 {

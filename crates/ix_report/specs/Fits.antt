@@ -6,6 +6,7 @@ use Rattle.std.specs.Ordering.{nat_cmp}
 use Rattle.ix_conf.specs.Settings.{Settings}
 use Rattle.ix_wire.specs.declared.entry.Entry.{Entry}
 use Rattle.ix_wire.specs.declared.entry.Entry.TheVariants as entries
+use Rattle.ix_playdef.specs.Connects.{connect_answers}
 use Rattle.ix_playdef.specs.Groups.{AreRecords}
 use Rattle.ix_playdef.specs.Order.{key_cmp, key_of, numbers_among}
 use Rattle.ix_playdef.specs.Own.{local_of}
@@ -27,6 +28,8 @@ is_dropped frames _ = false
 pub record Fits (s : Settings) (frames : List (List ℕ)) (entries : List Entry) (r : Report) : Type 0 where
   -- Each group ran its connects, then its frames and all times in wire order, each in a cycle of its own.
   pub groups : AreRecords s frames entries r.groups
+  -- Each connect has its answer, in the order of the peers.
+  pub connects : r.connects ≡ connect_answers s frames
   -- The replies are the frames that connections and strays give, each once, in the order of their keys.
   pub replies : IsPermutation (all_replies (local_of s) r.groups) r.replies
   pub order : IsSortedByKey key_of key_cmp r.replies

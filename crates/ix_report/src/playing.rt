@@ -2,23 +2,19 @@
 ghost use Rattle.std.specs.Prelude.{◌≡◌, ◌≤◌, ◌<◌, ◌^◌, All, IfOk, count_by, length};
 ghost use Rattle.ix_conf.specs.Settings.{settings_of};
 ghost use Rattle.ix_pcap.specs.Capture.{IsSpanOf, frames_of};
-ghost use Rattle.ix_playdef.specs.Groups.{AreRecords};
-ghost use Rattle.ix_playdef.specs.Replies.{FitsGroup, IsShort};
-ghost use Rattle.ix_playdef.specs.Setting.{cfg_of};
-ghost use Rattle.ix_tcpdef.specs.Sound.{IsInRange};
+ghost use Rattle.ix_playdef.specs.Replies.{IsShort};
 ghost use Rattle.ix_report.specs.Fits.{Fits, is_dropped};
 
 use crate::report::Report;
 use crate::strays::strays_of;
 use ix_base::{List, NoMemory};
 use ix_conf::Conf;
-use ix_groupdef::{GroupRecord, groups_are_sound};
 use ix_pcap::{Capture, Span};
-use ix_playdef::{MAX_FRAME, group_records, local_of, replies_of};
+use ix_playdef::{MAX_FRAME, connect_answers, group_records, local_of, replies_of};
 use ix_wire::Entry;
 use std::alloc::Global;
 
-/// The most replies, and the most drops, that a report tells: their numbers have 32 bits.
+/// The most replies that a report tells: their numbers have 32 bits.
 const MOST: usize = 4_294_967_295;
 
 // Whether an entry is a frame that is too long.
@@ -38,7 +34,8 @@ fn is_dropped(bytes: &[u8], spans: &[Span], entry: Entry) -> bool
 // How many entries are such frames.
 fn drops_of(bytes: &[u8], spans: &[Span], entries: &[Entry]) -> usize
     requires { All (IsSpanOf bytes.now) spans.now }
-    ensures { result ≡ count_by (is_dropped (frames_of bytes.now spans.now)) entries.now }
+    ensures count { result ≡ count_by (is_dropped (frames_of bytes.now spans.now)) entries.now }
+    ensures bound { result ≤ length entries.now }
 {
     let mut drops = 0;
     for i in 0..entries.len() {
@@ -49,38 +46,8 @@ fn drops_of(bytes: &[u8], spans: &[Span], entries: &[Entry]) -> usize
     drops
 }
 
-// The ranges of a configuration.
-fn keeps_ranges(conf: &Conf)
-    ensures { IsInRange (cfg_of (settings_of conf.now)) }
-{}
-
-// The length of a hardware address.
-fn keeps_length(mac: &[u8; 6])
-    ensures { length mac.now ≤ 6 }
-{}
-
-// What the groups leave.
-fn groups_of(
-    alloc: Global,
-    conf: &Conf,
-    bytes: &[u8],
-    capture: &Capture,
-    entries: &[Entry],
-) -> Result<Vec<GroupRecord>, NoMemory>
-    requires spans { All (IsSpanOf bytes.now) capture.now }
-    requires numbers { length entries.now ≤ 2 ^ 32 }
-    ensures groups { IfOk result (λ groups. length groups.items ≡ 512) }
-    ensures each { IfOk result (λ groups. AreRecords (settings_of conf.now) (frames_of bytes.now capture.now) entries.now groups.items) }
-    ensures fit { IfOk result (λ groups. All FitsGroup groups.items) }
-{
-    groups_are_sound();
-    keeps_ranges(conf);
-    keeps_length(&conf.mac);
-    group_records(alloc, conf, bytes, capture, entries)
-}
-
 /// A whole play on one core, where each frame is a cycle of its own: its report fits the configuration, the capture and the wire list.
-/// Memory runs out where there are more than 4,294,967,295 replies or drops, which no report can tell.
+/// Memory runs out where there are more than 4,294,967,295 replies, which no report can tell.
 pub fn play(
     alloc: Global,
     conf: &Conf,
@@ -89,21 +56,23 @@ pub fn play(
     entries: &[Entry],
 ) -> Result<Report, NoMemory>
     requires spans { All (IsSpanOf bytes.now) capture.now }
-    requires numbers { length entries.now ≤ 2 ^ 32 }
+    requires numbers { length entries.now < 2 ^ 32 }
     ensures fits { IfOk result (λ report. Fits (settings_of conf.now) (frames_of bytes.now capture.now) entries.now report) }
     ensures few { IfOk result (λ report. length report.replies < 2 ^ 32) }
     ensures short { IfOk result (λ report. All IsShort report.replies) }
 {
-    let groups = groups_of(alloc, conf, bytes, capture, entries)?;
+    let groups = group_records(alloc, conf, bytes, capture, entries)?;
+    let connects = connect_answers(alloc, conf)?;
     let replies = replies_of(alloc, &local_of(conf), groups.as_slice())?;
     let drops = drops_of(bytes, capture.spans(), entries);
-    if replies.len() > MOST || drops > MOST {
+    if replies.len() > MOST {
         return Err(NoMemory);
     }
     let strays = strays_of(alloc, replies.as_slice(), groups.as_slice())?;
     Ok(Report {
         groups: List::from_vec(groups),
         replies: List::from_vec(replies),
+        connects: List::from_vec(connects),
         strays: List::from_vec(strays),
         drops: drops as u32,
     })

@@ -1,6 +1,6 @@
 // What a play leaves.
 
-use ix_base::List;
+use ix_base::{List, Ret};
 use ix_groupdef::GroupRecord;
 use ix_lines::StrayLine;
 use ix_playdef::Reply;
@@ -12,6 +12,8 @@ pub struct Report {
     pub groups: List<GroupRecord>,
     /// The frames that were sent, in their order.
     pub replies: List<Reply>,
+    /// What became of each connect, in the order of the peers.
+    pub connects: List<Ret>,
     /// The accepted frames that no connection took, by rising wire number.
     pub strays: List<StrayLine>,
     /// How many frames of the wire list were dropped, each for its length.

@@ -36,14 +36,6 @@ Refuses-capture bytes TooManyRecords m is = rw is refl
 Refuses-capture bytes (CutRecord at) m is = rw is refl
 Refuses-capture bytes NoMemory m is = tt
 
-pub IfOk-map : {A E : Type 0} {P Q : A → Type 0} (r : Result A E) → ((x : A) → P x → Q x) → IfOk r P → IfOk r Q
-IfOk-map (Ok x) f p = f x p
-IfOk-map (Err e) f p = tt
-
-pub IfErr-map : {A E : Type 0} {P Q : E → Type 0} (r : Result A E) → ((e : E) → P e → Q e) → IfErr r P → IfErr r Q
-IfErr-map (Ok x) f p = tt
-IfErr-map (Err e) f p = f e p
-
 not_above : (limit n : ℕ) → n ≤ limit → nat_lt limit n ≡ false
 not_above limit n within = grind (arith, nat_tests, within)
 

@@ -36,7 +36,7 @@ pub struct Inputs {
 }
 
 impl Model for Inputs {
-    ghost use Rattle.std.specs.Prelude.{◌≤◌, ◌^◌, length};
+    ghost use Rattle.std.specs.Prelude.{◌<◌, ◌^◌, length};
     ghost use Rattle.ix_conf.specs.Settings.{settings_of};
     ghost use Rattle.ix_top.specs.Top as meaning;
 
@@ -44,7 +44,7 @@ impl Model for Inputs {
 
     ghost view = { λ i. record { settings = settings_of i.conf; frames = i.records; entries = i.entries.items } };
 
-    ghost invariant = { λ i. length i.entries.items ≤ 2 ^ 32 };
+    ghost invariant = { λ i. length i.entries.items < 2 ^ 32 };
 }
 
 impl Inputs {
@@ -162,7 +162,7 @@ fn read_entries<H: Host>(
     ensures end { OnOk result (IsAtEnd ((H.state host.new).left role.Script)) }
     ensures ok { IfOk result (λ e. (s : List ℕ) → (H.state host.old).left role.Script ≡ Some s → script_input (settings_of conf.now) records.now s ≡ Ok e.items) }
     ensures err { IfErr result (λ e. (s : List ℕ) → (H.state host.old).left role.Script ≡ Some s → Refuses e (script_input (settings_of conf.now) records.now s)) }
-    ensures numbers { IfOk result (λ e. length e.items ≤ 2 ^ 32) }
+    ensures numbers { IfOk result (λ e. length e.items < 2 ^ 32) }
     ensures stops { IfErr result IsStop }
     ensures failed { IsErrOf result Status.ReadFault → Rose ((H.state host.old).faults Reading) ((H.state host.new).faults Reading) }
 {
@@ -185,7 +185,7 @@ fn parse_entries(
 ) -> Result<Vec<Entry>, Status>
     ensures ok { IfOk result (λ e. entries_read (script_of (settings_of conf.now) (map (own_frame conf.now.mac) records.now) bytes.now) ≡ Ok e.items) }
     ensures err { IfErr result (λ e. Refuses e (entries_read (script_of (settings_of conf.now) (map (own_frame conf.now.mac) records.now) bytes.now))) }
-    ensures numbers { IfOk result (λ e. length e.items ≤ 2 ^ 32) }
+    ensures numbers { IfOk result (λ e. length e.items < 2 ^ 32) }
     ensures stops { IfErr result IsStop }
     ensures failed { result ≢ Err Status.ReadFault }
 {

@@ -62,7 +62,7 @@ impl Records {
 
     /// The play of this configuration and this wire list over them, on one core.
     pub fn play(&self, alloc: Global, conf: &Conf, entries: &[Entry]) -> Result<Report, NoMemory>
-        requires { length entries.now ≤ 2 ^ 32 }
+        requires { length entries.now < 2 ^ 32 }
         ensures fits { IfOk result (λ report. Fits (settings_of conf.now) self.now entries.now report) }
         ensures few { IfOk result (λ report. length report.replies < 2 ^ 32) }
         ensures short { IfOk result (λ report. All IsShort report.replies) }

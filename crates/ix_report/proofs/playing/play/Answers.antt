@@ -8,6 +8,7 @@ pub returns-clause-fits : goal.returns-clause-fits
 returns-clause-fits c =
     record {
       groups = search rules;
+      connects = search rules;
       replies = search rules;
       order = search rules;
       numbered = search rules;
