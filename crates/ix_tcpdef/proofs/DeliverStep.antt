@@ -112,7 +112,7 @@ record DeliversNext (past : Past) (before : List Output) (n : Next) : Type 0 whe
   at : DeliversAt past before (job_of n).connection (job_of n).outputs
 
 -- a check that lets a segment go on leaves the job as it was, and has found this
-abbrev LetsBy : Type 0 → Job → Next → Type 0
+abbrev pub LetsBy : Type 0 → Job → Next → Type 0
 LetsBy E j (Goes k) = (k ≡ j) × E
 LetsBy E j (Stops k) = Unit {0}
 
@@ -121,7 +121,7 @@ delivers-then E past before j (Goes k) f lets d more =
     subst (λ (v : Job). DeliversNext past before (f v)) (sym lets.0) (more lets.1 (subst (λ (v : Job). DeliversAt past before v.connection v.outputs) lets.0 d.at))
 delivers-then E past before j (Stops k) f lets d more = record { at = d.at }
 
-lets-acceptability : (cfg : Cfg) (h : SegHead) (now : ℕ) (j : Job) → LetsBy (Unit {0}) j (acceptability cfg h now j)
+pub lets-acceptability : (cfg : Cfg) (h : SegHead) (now : ℕ) (j : Job) → LetsBy (Unit {0}) j (acceptability cfg h now j)
 unfolding acceptability
 lets-acceptability cfg h now j =
     let P : Next → Type 0 = LetsBy (Unit {0}) j in
@@ -129,7 +129,7 @@ lets-acceptability cfg h now j =
     (λ _. cond_both (has_flag h.flags RST) _ _ P (λ _. tt)
     (λ _. cond_both (has_flag h.flags FIN && is_time_wait j.connection.state) _ _ P (λ _. tt) (λ _. tt)))
 
-lets-reset : (cfg : Cfg) (h : SegHead) (j : Job) → LetsBy (Unit {0}) j (reset cfg h j)
+pub lets-reset : (cfg : Cfg) (h : SegHead) (j : Job) → LetsBy (Unit {0}) j (reset cfg h j)
 unfolding reset
 lets-reset cfg h j =
     let P : Next → Type 0 = LetsBy (Unit {0}) j in
@@ -140,14 +140,14 @@ not-set : (b : Bool) → not b ≡ true → b ≡ false
 not-set false e = refl
 not-set true e = cc
 
-lets-synchronize : (cfg : Cfg) (h : SegHead) (j : Job) → LetsBy (has_flag h.flags SYN ≡ false) j (synchronize cfg h j)
+pub lets-synchronize : (cfg : Cfg) (h : SegHead) (j : Job) → LetsBy (has_flag h.flags SYN ≡ false) j (synchronize cfg h j)
 unfolding synchronize
 lets-synchronize cfg h j =
     let P : Next → Type 0 = LetsBy (has_flag h.flags SYN ≡ false) j in
     cond_both (not (has_flag h.flags SYN)) _ _ P (λ e. (refl, not-set (has_flag h.flags SYN) e))
     (λ _. cond_both (is_syn_received j.connection.state) _ _ P (λ _. tt) (λ _. tt))
 
-lets-unacknowledged : (h : SegHead) (j : Job) → LetsBy (Unit {0}) j (unacknowledged h j)
+pub lets-unacknowledged : (h : SegHead) (j : Job) → LetsBy (Unit {0}) j (unacknowledged h j)
 unfolding unacknowledged
 lets-unacknowledged h j =
     cond_both (has_flag h.flags ACK) _ _ (LetsBy (Unit {0}) j) (λ _. (refl, tt)) (λ _. tt)
@@ -762,7 +762,7 @@ delivers-run (m ∷ ms) past before cfg w range written say k d =
     (delivers-next (next_past m past) before (step cfg w m.input m.clock).connection (step cfg w m.input m.clock).outputs
     (delivers-stepped m.input m.clock past before cfg w say.0 k (delivers-later m past before w d))))
 
-kept-listening : (cfg : Cfg) (flow : Flow) (peer_mac : List ℕ) (iss : ℕ) → IsKept cfg (listening flow peer_mac iss)
+pub kept-listening : (cfg : Cfg) (flow : Flow) (peer_mac : List ℕ) (iss : ℕ) → IsKept cfg (listening flow peer_mac iss)
 kept-listening cfg flow peer_mac iss =
     record {
       sound = record {

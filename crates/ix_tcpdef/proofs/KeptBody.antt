@@ -160,11 +160,11 @@ length-among new (s ∷ rest) =
     cond_both (nat_lt new.at s.at) _ _ (λ l. length l ≡ length (s ∷ rest) + 1) (λ _. omega arith) (λ _. omega (arith, length-among new rest))
 
 -- where these octets stand
-record LiesBehind (cfg : Cfg) (o : Octets) (w : Connection) : Type 0 where
-  behind : w.rcv ≤ o.at
-  some : 0 < length o.bytes
-  within : o.at + length o.bytes ≤ w.rcv + (cfg.window - w.unread)
-  place : o.from + length o.bytes < 2 ^ 16
+pub record LiesBehind (cfg : Cfg) (o : Octets) (w : Connection) : Type 0 where
+  pub behind : w.rcv ≤ o.at
+  pub some : 0 < length o.bytes
+  pub within : o.at + length o.bytes ≤ w.rcv + (cfg.window - w.unread)
+  pub place : o.from + length o.bytes < 2 ^ 16
 
 kept-waiting : (cfg : Cfg) (o : Octets) (n : WireNo) (fin : Bool) (w : Connection) → LiesBehind cfg o w → w.rcv < o.at → is_unknown w.state ≡ false → IsKept cfg w → IsKept cfg (waiting o n fin w)
 unfolding waiting
@@ -224,7 +224,7 @@ kept-received cfg o w fin j l known k =
     (λ next. kept-filled cfg _ _ j.connection.held fin (delivered o w j) (filling-delivered cfg _ _ j.connection.held o w j (grind (arith, common_steps, next)) (omega arith) (filling-kept cfg j.connection known k)))
     (λ later. kept-waiting cfg o w fin j.connection l (grind (arith, common_steps, later)) known k)
 
-octets-lie : (cfg : Cfg) (seg : Seg) (w : Connection) → IsFramed seg → w.unread ≤ cfg.window → (length (octets w.rcv (rcv_wnd cfg w) (seq_of w seg.head) seg.head.at seg.body).bytes == 0) ≡ false → LiesBehind cfg (octets w.rcv (rcv_wnd cfg w) (seq_of w seg.head) seg.head.at seg.body) w
+pub octets-lie : (cfg : Cfg) (seg : Seg) (w : Connection) → IsFramed seg → w.unread ≤ cfg.window → (length (octets w.rcv (rcv_wnd cfg w) (seq_of w seg.head) seg.head.at seg.body).bytes == 0) ≡ false → LiesBehind cfg (octets w.rcv (rcv_wnd cfg w) (seq_of w seg.head) seg.head.at seg.body) w
 unfolding octets
 octets-lie cfg seg w framed fits some = by_place (past_of (seq_of w seg.head)) (behind_of (seq_of w seg.head)) some
   where

@@ -14,3 +14,5 @@ pub mod FairStep
 pub mod DeliverBody
 pub mod DeliverStep
 pub mod OpeningLemmas
+pub mod OnwardLemmas
+pub mod LivedLemmas

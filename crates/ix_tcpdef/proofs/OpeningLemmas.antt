@@ -29,7 +29,7 @@ use Rattle.ix_tcpdef.specs.declared.types.State.TheVariants as st
 use Rattle.ix_tcpdef.specs.declared.types.Told.{Told}
 use Rattle.ix_tcpdef.specs.declared.types.Told.TheVariants as told
 use Rattle.ix_tcpdef.specs.declared.types.TheConstants.{ACK, FIN, RST, SYN}
-use Rattle.ix_tcpdef.specs.Stands.{OpensInOrder, HasOpened}
+use Rattle.ix_tcpdef.specs.Sound.{OpensInOrder, HasOpened}
 use Rattle.ix_tcpdef.specs.Positions.{BeginsOpening, StepsOpen}
 
 abbrev Opened : Job → Type 0

@@ -23,6 +23,9 @@ pub record CarriesStream (old new : Connection) (seg : Seg) : Type 0 where
   -- the position that the sequence number stands for
   pub at : ℕ
   pub first : 1 ≤ at
+  -- so a body has one place: it stands between SND.UNA before the step and SND.NXT after it
+  pub from : old.una ≤ at
+  pub to : at + length seg.body ≤ new.nxt
   pub seq : seg.head.seq ≡ number new.iss at
   -- from there on the stream begins with the body
   pub rest : List ℕ

@@ -15,3 +15,5 @@ pub mod Laws
 pub mod Delivered
 pub mod Stands
 pub mod Positions
+pub mod Onward
+pub mod Lived

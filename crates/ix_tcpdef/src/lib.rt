@@ -19,7 +19,7 @@ mod types;
 mod world;
 
 pub use fresh::unopened;
-pub use laws::{numbers_stand_for_positions, openings_stand, runs_are_sound};
+pub use laws::{numbers_stand_for_positions, openings_stand, positions_go_onward, runs_are_sound, runs_begin_and_end};
 pub use types::{
     ACK, Ask, BEHIND_HEADER, BEHIND_SYN, Cfg, Connection, FIN, HeldHead, HeldSegment, Input, Job,
     Left, Octets, Output, Outputs, PSH, Piece, RST, SYN, State, Tcb, Told,
