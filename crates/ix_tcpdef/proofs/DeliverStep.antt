@@ -9,7 +9,9 @@ use Rattle.ix_base.specs.declared.segment.Seg.{Seg}
 use Rattle.ix_base.specs.declared.segment.Ret.TheVariants as rets
 use Rattle.ix_base.specs.declared.id.WireNo.{WireNo}
 use Rattle.ix_base.specs.declared.id.Flow.{Flow}
-use Rattle.ix_tcpdef.specs.Numbers.{number, offset, is_past, is_at_or_past, has_flag, later}
+use Rattle.ix_base.specs.Sequence.{number, offset, is_past, is_at_or_past}
+use Rattle.ix_base.specs.Flags.{has_flag}
+use Rattle.ix_tcpdef.specs.Ticks.{later}
 use Rattle.ix_tcpdef.specs.Connection.{snd_una, snd_nxt, rcv_nxt, rcv_wnd, seq_of, acked_data, room, is_listen, is_syn_sent, is_syn_received, is_time_wait, gives, on, ended}
 use Rattle.ix_tcpdef.specs.Frames.{plain_frame, ack_frame, reset_frame, syn_frame, syn_ack_frame, fin_frame}
 use Rattle.ix_tcpdef.specs.Opening.{opens, passive, opening, active, connecting, connected, syn_sent}
@@ -42,7 +44,7 @@ use Rattle.ix_tcpdef.specs.declared.types.Input.TheVariants as inputs
 use Rattle.ix_tcpdef.specs.declared.types.Output.{Output}
 use Rattle.ix_tcpdef.specs.declared.types.Output.TheVariants as outputs
 use Rattle.ix_tcpdef.specs.declared.types.Told.TheVariants as told
-use Rattle.ix_tcpdef.specs.declared.types.TheConstants.{ACK, FIN, RST, SYN}
+use Rattle.ix_base.specs.declared.segment.TheConstants.{ACK, FIN, RST, SYN}
 
 -- ## Parts that leave the receiving side as it was
 pub record SameTold (v w : Connection) : Type 0 where

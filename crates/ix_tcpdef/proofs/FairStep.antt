@@ -7,7 +7,8 @@ use Rattle.std.proofs.lemmas.List.{take-append-drop, drop-drop}
 use Rattle.std.proofs.Math.Seq.{drop-append_seam}
 use Rattle.std.proofs.lemmas.List.Elements.{All-append, All-cons, All-nil, All-weaker}
 use Rattle.ix_base.specs.declared.segment.Ret.TheVariants as rets
-use Rattle.ix_tcpdef.specs.Numbers.{number, later}
+use Rattle.ix_base.specs.Sequence.{number}
+use Rattle.ix_tcpdef.specs.Ticks.{later}
 use Rattle.ix_tcpdef.specs.Connection.{rcv_nxt, is_listen, is_time_wait, is_syn_sent, on, ended}
 use Rattle.ix_tcpdef.specs.Frames.{fin_frame}
 use Rattle.ix_tcpdef.specs.Flush.{unacked, unsent, first_of, first_unacked_in, first_unacked, resends, resent, sends, usable, sendable, data_frames, data_sent, fin_sent, ack_sent, waits_for_window, armed, flushed, is_due, backed_off, timed_out, collapsed_in, collapsed, retransmitted, probed, expired}

@@ -8,7 +8,9 @@ use Rattle.std.proofs.lemmas.List.Elements.{All-append, All-cons, All-nil}
 use Rattle.ix_base.specs.declared.segment.SegHead.{SegHead}
 use Rattle.ix_base.specs.declared.segment.Seg.{Seg}
 use Rattle.ix_base.specs.declared.id.WireNo.{WireNo}
-use Rattle.ix_tcpdef.specs.Numbers.{is_past, past_of, behind_of, has_flag, later}
+use Rattle.ix_base.specs.Sequence.{is_past, past_of, behind_of}
+use Rattle.ix_base.specs.Flags.{has_flag}
+use Rattle.ix_tcpdef.specs.Ticks.{later}
 use Rattle.ix_tcpdef.specs.Connection.{rcv_nxt, rcv_wnd, seq_of, on}
 use Rattle.ix_tcpdef.specs.Body.{octets, delivered, rest_of, holding, filled, is_apart, held_among, waiting, received, takes_body, ends_next, body, past_fin, fin_taken_in, fin_taken, finished, text_and_fin}
 use Rattle.ix_tcpdef.specs.Needs.{EndsBy, LiesInFrames, AreParts, carries, IsFramed}
@@ -25,7 +27,7 @@ use Rattle.ix_tcpdef.specs.declared.types.Piece.{Piece}
 use Rattle.ix_tcpdef.specs.declared.types.Octets.{Octets}
 use Rattle.ix_tcpdef.specs.declared.types.Job.{Job}
 use Rattle.ix_tcpdef.specs.declared.types.Told.TheVariants as told
-use Rattle.ix_tcpdef.specs.declared.types.TheConstants.{FIN}
+use Rattle.ix_base.specs.declared.segment.TheConstants.{FIN}
 
 -- ## Delivery
 -- What holds while held segments are taken: what is left of them ends by top, and so does what is expected.

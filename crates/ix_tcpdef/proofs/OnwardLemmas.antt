@@ -7,7 +7,8 @@ use Rattle.std.proofs.lemmas.Grind.{common_steps}
 use Rattle.ix_base.specs.declared.id.WireNo.{WireNo}
 use Rattle.ix_base.specs.declared.segment.Seg.{Seg}
 use Rattle.ix_base.specs.declared.segment.SegHead.{SegHead}
-use Rattle.ix_tcpdef.specs.Numbers.{number, ahead, has_flag, is_past, is_at_or_past}
+use Rattle.ix_base.specs.Sequence.{number, ahead, is_past, is_at_or_past}
+use Rattle.ix_base.specs.Flags.{has_flag}
 use Rattle.ix_tcpdef.specs.Connection.{snd_una, snd_nxt, rcv_nxt, rcv_wnd, seq_of, room, acked_data, is_listen, is_syn_sent, is_syn_received, is_time_wait, on, gives, tells, ended}
 use Rattle.ix_tcpdef.specs.Frames.{ack_frame, reset_frame}
 use Rattle.ix_tcpdef.specs.Arrival.{Next, Goes, Stops, ◌>>=◌, job_of, span, is_acceptable, acceptability, reset, synchronize, unacknowledged}
@@ -41,7 +42,7 @@ use Rattle.ix_tcpdef.specs.declared.types.State.{State}
 use Rattle.ix_tcpdef.specs.declared.types.State.TheVariants as st
 use Rattle.ix_tcpdef.specs.declared.types.Told.{Told}
 use Rattle.ix_tcpdef.specs.declared.types.Told.TheVariants as told
-use Rattle.ix_tcpdef.specs.declared.types.TheConstants.{ACK, FIN, RST, SYN}
+use Rattle.ix_base.specs.declared.segment.TheConstants.{ACK, FIN, RST, SYN}
 
 pub follows_numbers : FollowsNumbers
 follows_numbers start p q m =

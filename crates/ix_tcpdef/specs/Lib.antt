@@ -1,4 +1,4 @@
-pub mod Numbers
+pub mod Ticks
 pub mod Connection
 pub mod Frames
 pub mod Opening

@@ -1,6 +1,6 @@
 -- Where the positions of a connection go.
 use Rattle.std.specs.Prelude.{◌≡◌, ℕ, ◌+◌, ◌^◌, ◌<◌, ◌≤◌, Bool, true, false}
-use Rattle.ix_tcpdef.specs.Numbers.{number, ahead}
+use Rattle.ix_base.specs.Sequence.{number, ahead}
 use Rattle.ix_tcpdef.specs.Connection.{is_listen}
 use Rattle.ix_tcpdef.specs.Sound.{IsInRange, IsKept, IsWritten, HasWindow}
 use Rattle.ix_tcpdef.specs.Step.{step}

@@ -1,6 +1,6 @@
 -- The numbers that stand for a connection (RFC 9293, sections 3.3.1 and 3.4).
 use Rattle.std.specs.Prelude.{◌≡◌, ℕ, ◌-◌, List, length, drop, map}
-use Rattle.ix_tcpdef.specs.Numbers.{number}
+use Rattle.ix_base.specs.Sequence.{number}
 use Rattle.ix_tcpdef.specs.Connection.{snd_una, snd_nxt, rcv_nxt, queued}
 use Rattle.ix_tcpdef.specs.Sound.{IsInRange, IsKept, HasOpened}
 use Rattle.ix_tcpdef.specs.declared.types.Cfg.{Cfg}
