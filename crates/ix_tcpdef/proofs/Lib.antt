@@ -16,3 +16,4 @@ pub mod DeliverStep
 pub mod OpeningLemmas
 pub mod OnwardLemmas
 pub mod LivedLemmas
+pub mod StandingLemmas

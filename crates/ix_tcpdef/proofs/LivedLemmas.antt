@@ -1,7 +1,7 @@
 -- What is true of a connection that ran from its beginning, over every step.
-use Rattle.std.proofs.Common.{◌≡◌, ℕ, ◌+◌, ◌-◌, ◌^◌, ◌<◌, Bool, true, false, if◌then◌else◌, length, List, [], ◌∷◌, ◌++◌, map, arith, refl, sym, ap, subst, ◌∙◌}
-use Rattle.std.specs.Prelude.{nat_lt, nat_le, ◌&&◌, ◌||◌, ◌==◌, not, is_none, Option, Some, None}
-use Rattle.std.specs.List.{All, list_all}
+use Rattle.std.proofs.Common.{◌≡◌, ℕ, ◌+◌, ◌-◌, Bool, true, false, if◌then◌else◌, length, List, [], ◌∷◌, ◌++◌, map, refl, sym, ap, subst, ◌∙◌}
+use Rattle.std.specs.Prelude.{nat_lt, nat_le, ◌&&◌, ◌||◌, ◌==◌, not, is_none, Option, Some}
+use Rattle.std.specs.List.{list_all}
 use Rattle.std.proofs.lemmas.Bool.{cond_both}
 use Rattle.std.proofs.lemmas.List.Elements.{All-append, All-cons, All-nil}
 use Rattle.ix_base.specs.declared.id.Flow.{Flow}
@@ -12,13 +12,12 @@ use Rattle.ix_base.specs.Sequence.{number, is_past, is_at_or_past}
 use Rattle.ix_base.specs.Flags.{has_flag}
 use Rattle.ix_tcpdef.specs.Ticks.{later}
 use Rattle.ix_tcpdef.specs.Connection.{snd_una, snd_nxt, rcv_nxt, rcv_wnd, seq_of, room, acked_data, is_listen, is_syn_sent, is_syn_received, is_time_wait, is_closed, on, gives, tells, ended}
-use Rattle.ix_tcpdef.specs.Frames.{ack_frame, reset_frame}
+use Rattle.ix_tcpdef.specs.Frames.{ack_frame}
 use Rattle.ix_tcpdef.specs.Arrival.{Next, Goes, Stops, ◌>>=◌, job_of, span, is_acceptable, acceptability, reset, synchronize, unacknowledged}
-use Rattle.ix_tcpdef.specs.Acknowledgement.{established, establishing, too_far, is_duplicate, duplicated, advanced, is_newer, windowed, told_sent, fin_acked_in, fin_acked, acked, synchronized, acknowledgement}
-use Rattle.ix_tcpdef.specs.Body.{octets, delivered, rest_of, holding, filled, is_apart, waiting, received, takes_body, ends_next, body, fin_taken_in, fin_taken, past_fin, finished, text_and_fin}
-use Rattle.ix_tcpdef.specs.Opening.{opens, opening, connecting, connected, syn_sent}
+use Rattle.ix_tcpdef.specs.Acknowledgement.{establishing, too_far, is_duplicate, duplicated, advanced, is_newer, windowed, told_sent, fin_acked_in, fin_acked, acked, synchronized, acknowledgement}
+use Rattle.ix_tcpdef.specs.Body.{octets, delivered, rest_of, holding, filled, is_apart, waiting, received, takes_body, body, fin_taken_in, fin_taken, past_fin, finished, text_and_fin}
+use Rattle.ix_tcpdef.specs.Opening.{opens, opening, connecting, syn_sent}
 use Rattle.ix_tcpdef.specs.Calls.{is_live, as_told, accept, is_open, sendv, recv_done, closed_state, persists, close, answered, is_connect, called}
-use Rattle.ix_tcpdef.specs.Delivered.{expects}
 use Rattle.ix_tcpdef.specs.Flush.{unsent, resends, resent, sends, data_sent, fin_sent, ack_sent, waits_for_window, armed, flushed, is_due, timed_out, collapsed_in, collapsed, retransmitted, probed, expired}
 use Rattle.ix_tcpdef.specs.Lived.{AreTold, Lived, HasLived, AllBegin, StepsLive, RunsLive}
 use Rattle.ix_tcpdef.specs.Onward.{knows_peer}
@@ -35,7 +34,6 @@ use Rattle.ix_tcpdef.specs.declared.types.Input.{Input}
 use Rattle.ix_tcpdef.specs.declared.types.Input.TheVariants as inputs
 use Rattle.ix_tcpdef.specs.declared.types.Job.{Job}
 use Rattle.ix_tcpdef.specs.declared.types.Octets.{Octets}
-use Rattle.ix_tcpdef.specs.declared.types.Output.TheVariants as outputs
 use Rattle.ix_tcpdef.specs.declared.types.Piece.{Piece}
 use Rattle.ix_tcpdef.specs.declared.types.State.{State}
 use Rattle.ix_tcpdef.specs.declared.types.State.TheVariants as st
@@ -198,7 +196,7 @@ unfolding delivered
 running-delivered o w j known r =
     let p : Piece = record { w = w; from = o.from; bytes = o.bytes; told = j.connection.accepted } in
     let more : Runs j.connection.state j.connection.accepted (j.connection.pieces ++ record { w = w; from = o.from; bytes = o.bytes; told = j.connection.accepted } ∷ []) =
-        record { running = r.running; told = told-more j.connection.accepted j.connection.pieces _ refl r.told; none = λ e. let no : false ≡ true = sym e ∙ known in cc } in
+    record { running = r.running; told = told-more j.connection.accepted j.connection.pieces _ refl r.told; none = λ e. let no : false ≡ true = sym e ∙ known in cc } in
     cond_both j.connection.shut _ _ RunningAt (λ _. r) (λ _. cond_both j.connection.accepted _ _ RunningAt (λ _. more) (λ _. more))
 
 known-delivered : (o : Octets) (w : WireNo) (j : Job) → knows_peer j.connection.state ≡ true → knows_peer (delivered o w j).connection.state ≡ true
@@ -327,7 +325,7 @@ running-close : (j : Job) → RunningAt j → RunningAt (close j)
 unfolding close
 running-close j r =
     let shut : Runs (closed_state j.connection.state) j.connection.accepted j.connection.pieces =
-        record { running = closed-closed j.connection.state ∙ r.running; told = r.told; none = λ e. r.none (sym (closed-knows j.connection.state) ∙ e) } in
+    record { running = closed-closed j.connection.state ∙ r.running; told = r.told; none = λ e. r.none (sym (closed-knows j.connection.state) ∙ e) } in
     cond_both (persists j.connection) _ _ Running (λ _. shut) (λ _. shut)
 
 running-answered : (cfg : Cfg) (ask : Ask) (j : Job) → RunningAt j → RunningAt (answered cfg ask j)

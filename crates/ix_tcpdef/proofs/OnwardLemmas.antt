@@ -13,19 +13,19 @@ use Rattle.ix_tcpdef.specs.Connection.{snd_una, snd_nxt, rcv_nxt, rcv_wnd, seq_o
 use Rattle.ix_tcpdef.specs.Frames.{ack_frame, reset_frame}
 use Rattle.ix_tcpdef.specs.Arrival.{Next, Goes, Stops, ◌>>=◌, job_of, span, is_acceptable, acceptability, reset, synchronize, unacknowledged}
 use Rattle.ix_tcpdef.specs.Acknowledgement.{established, establishing, too_far, is_duplicate, duplicated, advanced, is_newer, windowed, told_sent, fin_acked_in, fin_acked, acked, synchronized, acknowledgement}
-use Rattle.ix_tcpdef.specs.Body.{octets, delivered, rest_of, holding, filled, is_apart, waiting, received, takes_body, ends_next, body, fin_taken_in, fin_taken, past_fin, finished, text_and_fin}
+use Rattle.ix_tcpdef.specs.Body.{octets, delivered, rest_of, holding, filled, is_apart, waiting, received, takes_body, body, fin_taken_in, fin_taken, past_fin, finished, text_and_fin}
 use Rattle.ix_tcpdef.specs.Opening.{opens, opening, connecting, syn_sent}
 use Rattle.ix_tcpdef.specs.Calls.{is_live, accept, is_open, sendv, recv_done, persists, close, answered, is_connect, called}
 use Rattle.ix_tcpdef.specs.Flush.{unsent, resends, resent, sends, data_sent, fin_sent, ack_sent, waits_for_window, armed, flushed, is_due, timed_out, collapsed_in, collapsed, retransmitted, probed, expired}
 use Rattle.ix_tcpdef.specs.Step.{checked, arrived_in, arrived, is_alive, stepped, step}
 use Rattle.ix_tcpdef.specs.Needs.{EndsBy, IsFramed}
-use Rattle.ix_tcpdef.specs.Sound.{IsInRange, IsKept, IsWritten, HasWindow, bit}
+use Rattle.ix_tcpdef.specs.Sound.{IsKept, IsWritten, HasWindow}
 use Rattle.ix_tcpdef.specs.Delivered.{expects}
 use Rattle.ix_tcpdef.specs.Onward.{knows_peer, MovesOn, GoesOnward, StepsGoOnward, FollowsNumbers}
 use Rattle.ix_tcpdef.proofs.NumberLemmas.{advance_most}
 use Rattle.ix_tcpdef.proofs.KeptAck.{in_flight, kept-acknowledgement}
-use Rattle.ix_tcpdef.proofs.KeptArrival.{IsUnchanged, LeavesKept, Passes, passes-acceptability, passes-reset, passes-synchronize, passes-unacknowledged}
-use Rattle.ix_tcpdef.proofs.KeptBody.{LiesBehind, octets-lie}
+use Rattle.ix_tcpdef.proofs.KeptArrival.{IsUnchanged, LeavesKept, passes-acceptability, passes-reset, passes-synchronize, passes-unacknowledged}
+use Rattle.ix_tcpdef.proofs.KeptBody.{octets-lie}
 use Rattle.ix_tcpdef.proofs.KeptCalls.{listen-is}
 use Rattle.ix_tcpdef.proofs.KeptStep.{kept-step}
 use Rattle.ix_tcpdef.specs.declared.types.Ask.{Ask}
@@ -162,7 +162,7 @@ reached-advanced cfg h now old w s sent k =
     (λ past.
     let octets : ahead (snd_una w) h.ack ≡ ahead (snd_una old) h.ack = ap (λ n. ahead n h.ack) base in
     let most : old.una + ahead (snd_una old) h.ack ≤ old.nxt =
-        advance_most old.iss old.una old.nxt h.ack order (in_flight old.una old.nxt old.fin_sent k.sound.sender.flight) (sym (ap (λ n. is_past n h.ack) base) ∙ past) sent in
+    advance_most old.iss old.una old.nxt h.ack order (in_flight old.una old.nxt old.fin_sent k.sound.sender.flight) (sym (ap (λ n. is_past n h.ack) base) ∙ past) sent in
     record { iss_is = s.iss_is; irs_is = s.irs_is; una_from = omega (arith, una); una_to = omega (arith, una, octets, most); nxt_from = omega (arith, nxt); rcv_from = omega (arith, rcv); rcv_to = omega (arith, rcv) })
     (λ _. record { iss_is = s.iss_is; irs_is = s.irs_is; una_from = omega (arith, una); una_to = omega (arith, una, order); nxt_from = omega (arith, nxt); rcv_from = omega (arith, rcv); rcv_to = omega (arith, rcv) })
 
@@ -216,7 +216,7 @@ unfolding delivered
 at-delivered old top o w j reach p =
     let from : old.rcv ≤ j.connection.rcv = p.rcv_from in
     let further : Reaches old top j.connection.iss j.connection.irs j.connection.una j.connection.nxt (j.connection.rcv + length o.bytes) =
-        record { iss_is = p.iss_is; irs_is = p.irs_is; una_from = p.una_from; una_to = p.una_to; nxt_from = p.nxt_from; rcv_from = omega arith; rcv_to = reach } in
+    record { iss_is = p.iss_is; irs_is = p.irs_is; una_from = p.una_from; una_to = p.una_to; nxt_from = p.nxt_from; rcv_from = omega arith; rcv_to = reach } in
     cond_both j.connection.shut _ _ (At old top) (λ _. further) (λ _. cond_both j.connection.accepted _ _ (At old top) (λ _. further) (λ _. further))
 
 at-filled : (old : Connection) (top : ℕ) (ss : List HeldSegment) (fin : Bool) (j : Job) → EndsBy top ss → At old top j → At old top (filled ss fin j).0

@@ -17,3 +17,5 @@ pub mod Stands
 pub mod Positions
 pub mod Onward
 pub mod Lived
+pub mod Arrivals
+pub mod Standing

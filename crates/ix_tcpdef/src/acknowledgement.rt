@@ -22,9 +22,7 @@ ghost use Rattle.ix_tcpdef.specs.Acknowledgement.{
 };
 
 use crate::congestion::grown;
-use crate::connection::{
-    acked_data, end, give, loss_threshold, room, snd_nxt, snd_una, tell,
-};
+use crate::connection::{acked_data, end, give, loss_threshold, room, snd_nxt, snd_una, tell};
 use crate::frames::{ack_frame, reset_frame};
 use crate::numbers::{further, later};
 use crate::types::{Cfg, Connection, Job, Output, State, Told};

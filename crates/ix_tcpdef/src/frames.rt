@@ -119,5 +119,11 @@ pub fn data_frame(cfg: &Cfg, w: &Connection, at: u64, bytes: Bytes) -> Output
 pub fn fin_frame(alloc: Global, cfg: &Cfg, w: &Connection, at: u64) -> Output
     ensures { result ≡ fin_frame_of cfg.now w.now at }
 {
-    plain_frame(cfg, w, SeqNumber(w.iss).at(at), FIN + ACK, Bytes::new(alloc))
+    plain_frame(
+        cfg,
+        w,
+        SeqNumber(w.iss).at(at),
+        FIN + ACK,
+        Bytes::new(alloc),
+    )
 }

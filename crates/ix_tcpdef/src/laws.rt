@@ -1,6 +1,8 @@
 // Laws over runs of a connection, and over the numbers that stand for it.
 ghost use Rattle.ix_tcpdef.specs.Laws.{RunsKeep, RunsSendFairly};
 ghost use Rattle.ix_tcpdef.specs.Delivered.{RunsDeliver, RunsAgree};
+ghost use Rattle.ix_tcpdef.specs.Arrivals.{AcknowledgementsKeep, HoldsInPlace};
+ghost use Rattle.ix_tcpdef.specs.Standing.{StandsFirst, StandsOn};
 ghost use Rattle.ix_tcpdef.specs.Lived.{AllBegin, StepsLive, RunsLive};
 ghost use Rattle.ix_tcpdef.specs.Onward.{StepsGoOnward, FollowsNumbers};
 ghost use Rattle.ix_tcpdef.specs.Positions.{CountsAhead, TestsPast, TestsAtOrPast, TellsApart, GoesOn, FindsPosition, BeginsOpening, StepsOpen};
@@ -52,4 +54,18 @@ pub fn runs_begin_and_end()
     ensures begins { AllBegin }
     ensures steps { StepsLive }
     ensures runs { RunsLive }
+{}
+
+/// Nothing happens here: the contract says that numbers stand for a connection before its opening, and that numbers which a call leaves
+/// stand for the connection after a step where they are its numbers.
+pub fn numbers_stand_on()
+    ensures first { StandsFirst }
+    ensures on { StandsOn }
+{}
+
+/// Nothing happens here: the contract says what an arrival keeps on its way. Behind the check of its acknowledgement a connection keeps what
+/// connections keep; a segment that is held stands behind those held segments that begin before it.
+pub fn arrivals_keep()
+    ensures acknowledgements { AcknowledgementsKeep }
+    ensures held { HoldsInPlace }
 {}

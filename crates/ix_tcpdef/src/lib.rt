@@ -26,7 +26,10 @@ pub use body::MOST_HELD;
 pub use congestion::{grown, initial_window, threshold_after_loss};
 pub use connection::offered_window;
 pub use fresh::unopened;
-pub use laws::{numbers_stand_for_positions, openings_stand, positions_go_onward, runs_are_sound, runs_begin_and_end};
+pub use laws::{
+    arrivals_keep, numbers_stand_for_positions, numbers_stand_on, openings_stand,
+    positions_go_onward, runs_are_sound, runs_begin_and_end,
+};
 pub use numbers::later;
 pub use opening::{DEFAULT_MSS, FIRST_THRESHOLD, opens, send_mss};
 pub use timer::{MOST_PROBE_EXPIRIES, backed_off, is_due};
