@@ -341,7 +341,15 @@ def told(words: tuple[str, ...]) -> str:
 
 
 def read_play(files: Files) -> Play:
-    """Reads the five files of a play and joins them."""
+    """Reads the five files of a play and joins them; files that are not those of one play are a BadPlay."""
+    try:
+        return join(files)
+    except (LookupError, ValueError) as error:
+        raise BadPlay(f"{files.conf}, {files.script} and {files.trace} are not files of one play: {error!r}") from error
+
+
+def join(files: Files) -> Play:
+    """Reads the five files and makes the rows."""
     conf = tomllib.loads(files.conf.read_text(encoding="utf-8"))
     local = conf["local"]
     capture, replies = frames.read_capture(files.capture), frames.read_capture(files.replies)
