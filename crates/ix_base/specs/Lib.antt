@@ -6,3 +6,7 @@ pub mod Faults
 pub mod File
 pub mod Sink
 pub mod Prefix
+pub mod Sequence
+pub mod Flags
+pub mod Places
+pub mod Branches

@@ -186,3 +186,8 @@ pub record Places (role : Role) (bytes : List ℕ) (old new : MemHost) : Type 0 
   pub fail : new.fail ≡ old.fail
   pub calls : new.calls ≡ old.calls
   pub faults : new.faults ≡ old.faults
+
+-- Files are put into a fresh host: of several files of a role the first counts, and a role without one keeps what it has.
+pub record Fills (files : List (Role × List ℕ)) (old new : MemHost) : Type 0 where
+  pub fresh : (contents : Role → List ℕ) (capacity : ℕ) (refused : List ℕ) → IsFresh contents capacity refused old
+      → IsFresh (λ role. file_or (contents role) role files) capacity refused new

@@ -1,12 +1,12 @@
 // The adapter over files and standard output.
-ghost use Rattle.std.specs.Prelude.{◌≡◌, ◌<◌, ◌≤◌, length, IsTrue, IsSome, IfSome};
+ghost use Rattle.std.specs.Prelude.{◌≡◌, ◌<◌, ◌≤◌, length, IsTrue, IsSome, IfSome, OnOk, OnErr};
 ghost use Rattle.ix_base.specs.Sink.{is_open};
 
 use crate::faults::Faults;
 use crate::{Failed, Host, Role};
-use std::fs;
 use std::io::{Read, Write};
 use std::rt::Files;
+use std::{fs, io};
 
 /// Where the bytes of a role that is written go.
 #[derive(Drop)]
@@ -62,42 +62,20 @@ impl<R: Files + Print> Host for FileHost<'_, R> {
     ghost state = { file_state };
 
     fn attach(&mut self, role: Role, name: &str) -> Result<(), Failed> {
-        match role {
-            Role::Conf
-            | Role::Capture
-            | Role::Script
-            | Role::GivenTrace
-            | Role::GivenReplies
-            | Role::Other => match fs::open(self.rt, name) {
-                Ok(file) => {
-                    match role {
-                        Role::Conf => self.conf = Some(file),
-                        Role::Capture => self.capture = Some(file),
-                        Role::Script => self.script = Some(file),
-                        Role::GivenTrace => self.given_trace = Some(file),
-                        Role::GivenReplies => self.given_replies = Some(file),
-                        _ => self.other = Some(file),
-                    }
-                    Ok(())
-                }
-                Err(_) => Err(self.faults.raise(role)),
-            },
-            Role::Replies | Role::Trace | Role::Played => {
-                let sink = if name == "-" {
-                    Sink::Standard
-                } else {
-                    match fs::create(self.rt, name) {
-                        Ok(file) => Sink::Open(file),
-                        Err(_) => return Err(self.faults.raise(role)),
-                    }
-                };
-                match role {
-                    Role::Replies => self.replies = sink,
-                    Role::Trace => self.trace = sink,
-                    _ => self.played = sink,
-                }
-                Ok(())
-            }
+        let prepared = match role {
+            Role::Conf => open(self.rt, name, &mut self.conf),
+            Role::Capture => open(self.rt, name, &mut self.capture),
+            Role::Script => open(self.rt, name, &mut self.script),
+            Role::GivenTrace => open(self.rt, name, &mut self.given_trace),
+            Role::GivenReplies => open(self.rt, name, &mut self.given_replies),
+            Role::Other => open(self.rt, name, &mut self.other),
+            Role::Replies => create(self.rt, name, &mut self.replies),
+            Role::Trace => create(self.rt, name, &mut self.trace),
+            Role::Played => create(self.rt, name, &mut self.played),
+        };
+        match prepared {
+            Ok(()) => Ok(()),
+            Err(_) => Err(self.faults.raise(role)),
         }
     }
 
@@ -134,6 +112,28 @@ impl<R: Files + Print> Host for FileHost<'_, R> {
             None => Err(self.faults.raise(role)),
         }
     }
+}
+
+// Opens a file that is read.
+fn open<R: Files>(rt: &R, name: &str, file: &mut Option<R::File>) -> io::Result<()>
+    ensures ok { OnOk result (IsSome file.new) }
+    ensures err { OnErr result (file.new ≡ file.old) }
+{
+    *file = Some(fs::open(rt, name)?);
+    Ok(())
+}
+
+// Makes a file that is written, or takes standard output where the name is `-`.
+fn create<R: Files>(rt: &R, name: &str, sink: &mut Sink<R::File>) -> io::Result<()>
+    ensures ok { OnOk result (IsTrue (is_open sink.new)) }
+    ensures err { OnErr result (sink.new ≡ sink.old) }
+{
+    *sink = if name == "-" {
+        Sink::Standard
+    } else {
+        Sink::Open(fs::create(rt, name)?)
+    };
+    Ok(())
 }
 
 // How many bytes an open file gave, or nothing where it failed.

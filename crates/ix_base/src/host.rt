@@ -11,7 +11,7 @@ use crate::{Failed, Role};
 /// written, both where the host tells them, which roles are attached, and two counts of faults, which never fall.
 ///
 /// A call fails only where the count of its role's kind rose in that call; a count that stands at its type's end is taken as risen. A call
-/// that fails moves no byte, and no call touches another role's bytes.
+/// that is Ok leaves both counts as they were. A call that fails moves no byte, and no call touches another role's bytes.
 pub trait Host {
     ghost state: { Self → State };
 
@@ -19,6 +19,7 @@ pub trait Host {
     fn attach(&mut self, role: Role, name: &str) -> Result<(), Failed>
         ensures state { Attaches role (state self.old) (state self.new) }
         ensures attached { OnOk result (IsTrue ((state self.new).is_attached role)) }
+        ensures uncounted { OnOk result ((state self.new).faults ≡ (state self.old).faults) }
         ensures failed { OnErr result (Rose ((state self.old).faults (kind_of role)) ((state self.new).faults (kind_of role))) };
 
     /// Reads the next bytes of a role, none only at the end.
@@ -28,6 +29,7 @@ pub trait Host {
         requires room { 0 < length buf.old }
         ensures bound { IfOk result (λ n. n ≤ length buf.new) }
         ensures state { Reads role (front result buf.new) (state self.old) (state self.new) }
+        ensures uncounted { OnOk result ((state self.new).faults ≡ (state self.old).faults) }
         ensures end { IfOk result (λ n. n ≡ 0 → IsAtEnd ((state self.new).left role)) }
         ensures failed { OnErr result (Rose ((state self.old).faults Reading) ((state self.new).faults Reading)) };
 
@@ -38,5 +40,6 @@ pub trait Host {
         requires some { 0 < length bytes.now }
         ensures bound { IfOk result (λ n. (0 < n) × (n ≤ length bytes.now)) }
         ensures state { Writes role (front result bytes.now) (state self.old) (state self.new) }
+        ensures uncounted { OnOk result ((state self.new).faults ≡ (state self.old).faults) }
         ensures failed { OnErr result (Rose ((state self.old).faults Writing) ((state self.new).faults Writing)) };
 }

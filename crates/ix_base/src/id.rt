@@ -1,5 +1,11 @@
 // Names of the things that a play moves.
 
+/// How many flow groups there are.
+pub const FLOW_GROUPS: usize = 512;
+
+/// How many bytes a packet buffer has. A longer frame is too long for every buffer.
+pub const BUFFER_BYTES: usize = 2048;
+
 /// A flow group: the unit by which connections move between cores. Group 0 also takes every frame that isn't TCP.
 #[derive(Clone, Copy, Debug, PartialEq, Eq, PartialOrd, Ord, Hash)]
 pub struct GroupId(pub u16);

@@ -12,13 +12,15 @@ mod mem;
 mod memory;
 mod role;
 mod segment;
+mod sequence;
 
 pub use file::FileHost;
 pub use frame::{Disposition, Local};
 pub use host::Host;
-pub use id::{BufId, CoreId, Flow, GroupId, Handle, Owned, WireNo};
+pub use id::{BUFFER_BYTES, BufId, CoreId, FLOW_GROUPS, Flow, GroupId, Handle, Owned, WireNo};
 pub use list::{Bytes, List};
 pub use mem::MemHost;
 pub use memory::{Back, NoMemory};
 pub use role::{Failed, Kind, Role};
-pub use segment::{Ret, Seg, SegHead};
+pub use segment::{ACK, FIN, PSH, RST, Ret, SYN, Seg, SegHead, has_flag};
+pub use sequence::{SeqNumber, behind, is_next, lies_in, past};

@@ -36,12 +36,14 @@ impl<T> List<T> {
         }
     }
 
+    /// The elements of a vector.
     pub fn from_vec(items: Vec<T>) -> List<T>
         ensures { result ≡ items.items }
     {
         List { items }
     }
 
+    /// The elements as a vector.
     pub fn into_vec(self) -> Vec<T>
         ensures { result.items ≡ self }
     {
@@ -49,24 +51,28 @@ impl<T> List<T> {
         items
     }
 
+    /// The elements, in order.
     pub fn as_slice(&self) -> &[T]
         ensures { result.now ≡ self.now }
     {
         self.items.as_slice()
     }
 
+    /// How many elements there are.
     pub fn len(&self) -> usize
         ensures { result ≡ length self.now }
     {
         self.items.len()
     }
 
+    /// Whether there is no element.
     pub fn is_empty(&self) -> bool
         ensures { IsTrue result ↔ (self.now ≡ []) }
     {
         self.items.is_empty()
     }
 
+    /// The element at a place, counted from 0; none past the end.
     pub fn get(&self, at: usize) -> Option<&T>
         ensures value { option_copied result ≡ slice_get self.now at }
         ensures within { OnSome result (at < length self.now) }
@@ -85,6 +91,7 @@ impl<T> List<T> {
         }
     }
 
+    /// Takes out the last element; none of an empty list.
     pub fn pop(&mut self) -> Option<T>
         ensures { MatchOption result ((self.old ≡ []) × (self.new ≡ [])) (λ last. self.old ≡ self.new ++ last ∷ []) }
     {
@@ -93,7 +100,7 @@ impl<T> List<T> {
 }
 
 impl<T: Drop> List<T> {
-    /// Moves the elements of `more` to the end.
+    /// Moves the elements of `more` to the end, or leaves the list as it was.
     pub fn append(&mut self, more: List<T>) -> Result<(), NoMemory>
         ensures ok { OnOk result (self.new ≡ self.old ++ more) }
         ensures err { OnErr result (self.new ≡ self.old) }
@@ -112,6 +119,7 @@ impl<T: Drop> List<T> {
         self.items.remove(at)
     }
 
+    /// Puts another element in a place.
     pub fn set(&mut self, at: usize, item: T)
         requires { at < length self.old }
         ensures { self.new ≡ slice_set self.old at item }
@@ -128,6 +136,7 @@ impl<T: Drop> List<T> {
 }
 
 impl<T: Copy> List<T> {
+    /// A list of these elements.
     pub fn from_slice(alloc: Global, items: &[T]) -> Result<List<T>, NoMemory>
         ensures { IfOk result (λ l. l ≡ items.now) }
     {
@@ -135,6 +144,14 @@ impl<T: Copy> List<T> {
         Ok(List { items })
     }
 
+    /// The same elements once more.
+    pub fn try_clone(&self, alloc: Global) -> Result<List<T>, NoMemory>
+        ensures { IfOk result (λ l. l ≡ self.now) }
+    {
+        List::from_slice(alloc, self.as_slice())
+    }
+
+    /// Puts these elements at the end, or leaves the list as it was.
     pub fn extend_from_slice(&mut self, more: &[T]) -> Result<(), NoMemory>
         ensures ok { OnOk result (self.new ≡ self.old ++ more.now) }
         ensures err { OnErr result (self.new ≡ self.old) }

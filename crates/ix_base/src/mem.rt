@@ -108,7 +108,7 @@ pub struct MemHost {
 }
 
 impl MemHost {
-    ghost use Rattle.ix_base.specs.Mem.{mem_state, written_bytes, file_or, IsFresh, Places};
+    ghost use Rattle.ix_base.specs.Mem.{mem_state, written_bytes, file_or, IsFresh, Fills, Places};
 
     /// A host with these files, and `room` bytes for each role that is written. A role without a file is empty; of several files of a role the
     /// first counts, and a file of a role that is written is ignored. `fail` has the numbers of the calls that fail.
@@ -121,10 +121,7 @@ impl MemHost {
         ensures { IfOk result (IsFresh (λ role. file_or [] role files.items) room fail.items) }
     {
         let mut host = MemHost::empty(alloc, room, fail)?;
-        let mut files = files;
-        while let Some((role, bytes)) = files.pop() {
-            host.place(role, bytes);
-        }
+        host.fill(files);
         Ok(host)
     }
 
@@ -145,6 +142,16 @@ impl MemHost {
             calls: 0,
             faults: Faults::new(),
         })
+    }
+
+    // Puts files into their roles, the last file first, so that of several files of a role the first stays.
+    fn fill(&mut self, files: Vec<(Role, Bytes)>)
+        ensures { Fills files.items self.old self.new }
+    {
+        let mut rest = files;
+        while let Some((role, bytes)) = rest.pop() {
+            self.place(role, bytes);
+        }
     }
 
     // Puts a file into its role, if that is read.
@@ -198,6 +205,7 @@ impl Host for MemHost {
     fn attach(&mut self, role: Role, _name: &str) -> Result<(), Failed>
         ensures state { Attaches role (mem_state self.old) (mem_state self.new) }
         ensures attached { OnOk result (IsTrue ((mem_state self.new).is_attached role)) }
+        ensures uncounted { OnOk result ((mem_state self.new).faults ≡ (mem_state self.old).faults) }
         ensures failed { OnErr result (Rose ((mem_state self.old).faults (kind_of role)) ((mem_state self.new).faults (kind_of role))) }
         ensures refused { IsErr result ↔ IsRefused self.old }
         ensures call { CountsCall self.old self.new }
@@ -225,6 +233,7 @@ impl Host for MemHost {
         requires room { 0 < length buf.old }
         ensures bound { IfOk result (λ n. n ≤ length buf.new) }
         ensures state { Reads role (front result buf.new) (mem_state self.old) (mem_state self.new) }
+        ensures uncounted { OnOk result ((mem_state self.new).faults ≡ (mem_state self.old).faults) }
         ensures end { IfOk result (λ n. n ≡ 0 → IsAtEnd ((mem_state self.new).left role)) }
         ensures failed { OnErr result (Rose ((mem_state self.old).faults Reading) ((mem_state self.new).faults Reading)) }
         ensures refused { IsErr result ↔ IsRefused self.old }
@@ -251,6 +260,7 @@ impl Host for MemHost {
         requires some { 0 < length bytes.now }
         ensures bound { IfOk result (λ n. (0 < n) × (n ≤ length bytes.now)) }
         ensures state { Writes role (front result bytes.now) (mem_state self.old) (mem_state self.new) }
+        ensures uncounted { OnOk result ((mem_state self.new).faults ≡ (mem_state self.old).faults) }
         ensures failed { OnErr result (Rose ((mem_state self.old).faults Writing) ((mem_state self.new).faults Writing)) }
         ensures refused { IsErr result ↔ (IsRefused self.old ⊎ (room_left self.old role ≡ 0)) }
         ensures amount { IfOk result (λ n. n ≡ min (room_left self.old role) (length bytes.now)) }
