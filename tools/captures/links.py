@@ -3,7 +3,7 @@ from __future__ import annotations
 
 import struct
 
-from captures.files import Fault
+from captures.capture import Fault
 
 ETHERNET = 1
 NAMES = {ETHERNET: "Ethernet", 12: "raw IP", 101: "raw IP", 113: "Linux cooked v1", 228: "raw IPv4", 276: "Linux cooked v2"}

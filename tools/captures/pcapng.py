@@ -5,7 +5,7 @@ import struct
 from dataclasses import dataclass, replace
 from typing import Iterator
 
-from captures.files import MICROSECONDS, NANOSECONDS, Capture, Fault, Head, Record
+from captures.capture import MICROSECONDS, NANOSECONDS, Capture, Fault, Head, Record
 from captures.links import ETHERNET
 
 SECTION = 0x0A0D0D0A

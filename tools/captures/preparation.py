@@ -7,8 +7,8 @@ from dataclasses import dataclass, field, replace
 
 from typing import Iterator
 
+from captures.capture import Capture, Fault, Record
 from captures.connections import Connection, Connections
-from captures.files import Capture, Fault, Record
 from captures.links import ETHERNET, NAMES, demand_known, ethernet_frame, hardware_address
 from captures.packets import CWR, FIN, ICMP, LONGEST_FRAME, PSH, RST, SYN, TCP, UDP, URG, Kind, Packet, Segment, Sum, kind_of
 

@@ -3,8 +3,8 @@ from __future__ import annotations
 
 from dataclasses import dataclass, field
 
+from captures.capture import Capture
 from captures.connections import Connection, Endpoint, servers
-from captures.files import Capture
 from captures.packets import FIN, SYN, Segment
 from captures.preparation import segments_of
 

@@ -4,8 +4,8 @@ from __future__ import annotations
 from collections import Counter
 from typing import Iterable, Iterator
 
+from captures.capture import Capture, Fault
 from captures.connections import Connection, Endpoint, colons, dotted, servers
-from captures.files import Capture, Fault
 from captures.packets import Kind
 from captures.preparation import Report, segments_of
 

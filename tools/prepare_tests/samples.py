@@ -4,7 +4,7 @@ from __future__ import annotations
 import struct
 from pathlib import Path
 
-from captures.files import MICROSECONDS, Capture, Head, Record
+from captures.capture import MICROSECONDS, Capture, Head, Record
 
 TOP = Path(__file__).resolve().parents[2]
 CLIENT, SERVER = "10.0.0.2", "10.0.0.1"

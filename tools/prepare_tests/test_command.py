@@ -7,7 +7,7 @@ import tomllib
 import unittest
 from pathlib import Path
 
-from captures.files import capture_bytes
+from captures.pcap import capture_bytes
 from prepare_tests.samples import ACK, FIN, TIMESTAMPS, TOP, capture_of, opening, scale, tcp
 
 TALK = opening(scale(10), scale(10)) + [
@@ -99,8 +99,8 @@ class Commands(unittest.TestCase):
         self.prepared.write_bytes(capture_bytes(capture_of(TALK)))
         (self.folder / "replies.pcap").write_bytes(capture_bytes(capture_of([TALK[1], TALK[4]])))
         same = f"{self.folder}: 10.0.0.2:40000: 5 of 5 bytes are the same, open\n1 of 1 streams are the same\n"
-        self.assertEqual(self.run_tool("check_streams", self.folder), (0, same, ""))
+        self.assertEqual(self.run_tool("check-streams", self.folder), (0, same, ""))
         (self.folder / "replies.pcap").write_bytes(capture_bytes(capture_of([TALK[1]])))
-        self.assertEqual(self.run_tool("check_streams", self.folder)[0], 1)
+        self.assertEqual(self.run_tool("check-streams", self.folder)[0], 1)
         (self.folder / "replies.pcap").write_bytes(b"hello")
-        self.assertEqual(self.run_tool("check_streams", self.folder)[0], 2)
+        self.assertEqual(self.run_tool("check-streams", self.folder)[0], 2)

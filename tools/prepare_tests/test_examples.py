@@ -4,7 +4,9 @@ from __future__ import annotations
 import unittest
 from pathlib import Path
 
-from captures.files import Fault, capture_bytes, read_capture
+from captures.capture import Fault
+from captures.files import read_capture
+from captures.pcap import capture_bytes
 from captures.preparation import prepare
 from prepare_tests.samples import TOP
 

@@ -4,7 +4,9 @@ from __future__ import annotations
 import struct
 import unittest
 
-from captures.files import MICROSECONDS, NANOSECONDS, Capture, Fault, Head, Record, capture_bytes, read_capture
+from captures.capture import MICROSECONDS, NANOSECONDS, Capture, Fault, Head, Record
+from captures.files import read_capture
+from captures.pcap import capture_bytes
 from prepare_tests.samples import capture_of, opening
 
 RECORDS = [Record(1, 7, 123_456, b"hello", 0), Record(1, 8, 999_999, b"", 3)]

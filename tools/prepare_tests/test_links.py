@@ -4,8 +4,8 @@ from __future__ import annotations
 import struct
 import unittest
 
+from captures.capture import Fault
 from captures.connections import colons
-from captures.files import Fault
 from captures.preparation import prepare
 from prepare_tests.samples import HARDWARE, SERVER, capture_of, octets, opening, scale, window_of
 
