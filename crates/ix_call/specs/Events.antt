@@ -1,7 +1,7 @@
 -- Events as plain data, and the buffers in them.
 use Rattle.std.specs.Prelude.{ℕ, List, Option, None, map, sum_by}
 use Rattle.std.specs.Option.{option_to_list}
-use Rattle.ix_base.specs.declared.id.BufId.{BufId}
+use Rattle.ix_mbuf.specs.declared.name.Name.{Name}
 use Rattle.ix_mbuf.specs.Owners.{maybe}
 use Rattle.ix_mbuf.specs.Buffers.{Piece}
 use Rattle.ix_call.specs.declared.event.Event.{Event}
@@ -15,11 +15,11 @@ event_part (Sent cookie bytes window) = None
 event_part (Dead cookie reason) = None
 
 -- only bytes that are told hold a buffer
-abbrev pub event_weight : (BufId → ℕ) → Event → ℕ
-event_weight f e = maybe (λ p. f p.buf.id) (event_part e)
+abbrev pub event_weight : (Name → ℕ) → Event → ℕ
+event_weight f e = maybe (λ p. f p.buf.name) (event_part e)
 
-abbrev pub event_ids : Event → List BufId
-event_ids e = map (λ p. p.buf.id) (option_to_list (event_part e))
+abbrev pub event_names : Event → List Name
+event_names e = map (λ p. p.buf.name) (option_to_list (event_part e))
 
-abbrev pub events_weight : (BufId → ℕ) → List Event → ℕ
+abbrev pub events_weight : (Name → ℕ) → List Event → ℕ
 events_weight f events = sum_by (event_weight f) events

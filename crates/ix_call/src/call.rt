@@ -1,9 +1,9 @@
 // What an application asks of a connection, and what it is answered.
 ghost use Rattle.std.specs.Prelude.{◌≡◌, ℕ};
-ghost use Rattle.ix_base.specs.declared.id.BufId.{BufId};
+ghost use Rattle.ix_mbuf.specs.declared.name.Name.{Name};
 ghost use Rattle.ix_mbuf.specs.Owners.{weigh};
 ghost use Rattle.ix_call.specs.Chunks.{chunks_weight};
-ghost use Rattle.ix_call.specs.Calls.{call_handle, call_chunks, call_weight, call_ids};
+ghost use Rattle.ix_call.specs.Calls.{call_handle, call_chunks, call_weight, call_names};
 
 use crate::chunk::Chunk;
 use ix_base::{Handle, List, Ret};
@@ -26,8 +26,10 @@ pub enum Call {
 /// What a call returns: its handle, the answer, and the chunks that TCP did not take.
 #[derive(Drop)]
 pub struct CallRet {
+    /// The handle of the call.
     pub handle: Handle,
     pub ret: Ret,
+    /// The chunks that TCP did not take, in order.
     pub back: List<Chunk>,
 }
 
@@ -49,8 +51,8 @@ impl Call {
     #[tactic(auto, using(crate::proofs::ChunkLemmas::chunk_laws))]
     pub fn chunks(&self) -> &[Chunk]
         ensures chunks { result.now ≡ call_chunks self.now }
-        ensures weight { (f : BufId → ℕ) → chunks_weight f result.now ≡ call_weight f self.now }
-        ensures ids { (f : BufId → ℕ) → weigh f (call_ids self.now) ≡ call_weight f self.now }
+        ensures weight { (f : Name → ℕ) → chunks_weight f result.now ≡ call_weight f self.now }
+        ensures names { (f : Name → ℕ) → weigh f (call_names self.now) ≡ call_weight f self.now }
     {
         match self {
             Call::Sendv { chunks, .. } => chunks.as_slice(),

@@ -1,6 +1,6 @@
 // A piece of what is sent.
 ghost use Rattle.std.specs.Prelude.{◌≡◌, ◌≤◌, ◌+◌, ◌++◌, ℕ, length, vec_len, vec_capacity, IfOk, if◌then◌else◌};
-ghost use Rattle.ix_base.specs.declared.id.BufId.{BufId};
+ghost use Rattle.ix_mbuf.specs.declared.name.Name.{Name};
 ghost use Rattle.ix_mbuf.specs.Owners.{one_at, maybe};
 ghost use Rattle.ix_mbuf.specs.Buffers.{buffers_weight};
 ghost use Rattle.ix_call.specs.Chunks.{chunk_bytes, chunks_bytes, chunk_weight, chunks_weight, chunk_id, chunk_buffer, chunks_buffers};
@@ -12,11 +12,14 @@ use std::alloc::Global;
 /// Bytes that an application gives to send: a part of a buffer, which is sent without a copy, or bytes of its own.
 #[derive(Drop)]
 pub enum Chunk {
+    /// A part of a buffer.
     Part(Part),
+    /// Bytes of the application's own.
     Own(Bytes),
 }
 
 impl Chunk {
+    /// The bytes to send, in order.
     pub fn bytes(&self) -> &[u8]
         ensures { result.now ≡ chunk_bytes self.now }
     {
@@ -26,6 +29,7 @@ impl Chunk {
         }
     }
 
+    /// The number of these bytes.
     pub fn len(&self) -> usize
         ensures { result ≡ length (chunk_bytes self.now) }
     {
@@ -35,7 +39,7 @@ impl Chunk {
         }
     }
 
-    /// The name of the buffer, where the chunk is a part of one.
+    /// The id of the buffer, where the chunk is a part of one.
     pub fn id(&self) -> Option<BufId>
         ensures { result ≡ chunk_id self.now }
     {
@@ -58,7 +62,7 @@ impl Chunk {
     /// The buffer of a part. Bytes of the application's own are let go.
     pub fn into_mbuf(self) -> Option<Mbuf>
         ensures buffer { result ≡ chunk_buffer self }
-        ensures weight { (f : BufId → ℕ) → maybe (λ b. f b.id) result ≡ chunk_weight f self }
+        ensures weight { (f : Name → ℕ) → maybe (λ b. f b.name) result ≡ chunk_weight f self }
     {
         match self {
             Chunk::Part(part) => Some(part.into_mbuf()),
@@ -82,7 +86,7 @@ pub fn join(alloc: Global, chunks: &[Chunk]) -> Result<Bytes, NoMemory>
 pub fn release(chunks: List<Chunk>, freed: &mut Vec<Mbuf>)
     requires { length chunks + vec_len freed.old ≤ vec_capacity freed.old }
     ensures freed { freed.new.items ≡ freed.old.items ++ chunks_buffers chunks }
-    ensures weight { (f : BufId → ℕ) → buffers_weight f freed.new.items ≡ buffers_weight f freed.old.items + chunks_weight f chunks }
+    ensures weight { (f : Name → ℕ) → buffers_weight f freed.new.items ≡ buffers_weight f freed.old.items + chunks_weight f chunks }
     ensures room { vec_capacity freed.new ≡ vec_capacity freed.old }
 {
     for chunk in chunks.into_vec() {

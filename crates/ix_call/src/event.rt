@@ -1,8 +1,8 @@
 // What an application is told of a connection.
 ghost use Rattle.std.specs.Prelude.{◌≡◌, ℕ};
-ghost use Rattle.ix_base.specs.declared.id.BufId.{BufId};
+ghost use Rattle.ix_mbuf.specs.declared.name.Name.{Name};
 ghost use Rattle.ix_mbuf.specs.Owners.{maybe, weigh};
-ghost use Rattle.ix_call.specs.Events.{event_part, event_weight, event_ids};
+ghost use Rattle.ix_call.specs.Events.{event_part, event_weight, event_names};
 
 use ix_base::Handle;
 use ix_mbuf::Part;
@@ -42,15 +42,20 @@ pub enum Event {
 /// How an opening ended.
 #[derive(Clone, Copy, Debug, PartialEq, Eq)]
 pub enum Outcome {
+    /// The connection is up, and is called by this handle.
     Up(Handle),
+    /// The peer refused it.
     Refused,
+    /// The peer did not answer in time.
     Timeout,
 }
 
 /// Why a connection is gone.
 #[derive(Clone, Copy, Debug, PartialEq, Eq)]
 pub enum Reason {
+    /// The peer reset the connection.
     Reset,
+    /// The peer did not answer in time.
     Timeout,
 }
 
@@ -58,8 +63,8 @@ impl Event {
     /// The part that the event tells. Its buffer is the only one in it.
     pub fn into_part(self) -> Option<Part>
         ensures part { result ≡ event_part self }
-        ensures weight { (f : BufId → ℕ) → maybe (λ p. f p.buf.id) result ≡ event_weight f self }
-        ensures ids { (f : BufId → ℕ) → weigh f (event_ids self) ≡ event_weight f self }
+        ensures weight { (f : Name → ℕ) → maybe (λ p. f p.buf.name) result ≡ event_weight f self }
+        ensures names { (f : Name → ℕ) → weigh f (event_names self) ≡ event_weight f self }
     {
         match self {
             Event::Recv { cookie: _, part } => part,

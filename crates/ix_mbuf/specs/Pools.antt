@@ -3,12 +3,13 @@ use Rattle.std.specs.Prelude.{◌≡◌, ◌≤◌, ◌<◌, ◌+◌, ◌^◌, �
 use Rattle.ix_base.specs.declared.id.BufId.{BufId}
 use Rattle.ix_base.specs.declared.id.CoreId.{CoreId}
 use Rattle.ix_mbuf.specs.Owners.{times, at_home}
+use Rattle.ix_mbuf.specs.declared.name.Name.{Name}
 
--- a pool: its core, the number of its buffers, and those that are free
+-- a pool: its core, the number of its buffers, and the names of those that are free
 pub record Stock : Type 0 where
   pub home : CoreId
   pub n : ℕ
-  pub free : List BufId
+  pub free : List Name
 
 -- The buffer is one of the pool's, and not free.
 abbrev pub is_out_of : Stock → BufId → Bool
@@ -19,7 +20,7 @@ abbrev pub is_in : CoreId → List Bool → BufId → Bool
 is_in home out id = id.home.0 == home.0 && not (slice_index_or out id.slot true)
 
 -- Free and given-out buffers are together those of the slots, each once.
-pub record FreeAndOut (home : CoreId) (out : List Bool) (free : List BufId) (capacity : ℕ) : Type 0 where
+pub record FreeAndOut (home : CoreId) (out : List Bool) (free : List Name) (capacity : ℕ) : Type 0 where
   -- a buffer stands among the free ones once where its flag is down, and else never
   pub each : (id : BufId) → times id free ≡ (if is_in home out id then 1 else 0)
   pub homes : at_home home.0 free ≡ length free
@@ -27,7 +28,11 @@ pub record FreeAndOut (home : CoreId) (out : List Bool) (free : List BufId) (cap
   pub room : length out ≤ capacity
   pub small : capacity < 2 ^ 32
 
--- all buffers of a core, by rising slot
-abbrev pub all_ids : CoreId → ℕ → List BufId
-all_ids home zero = []
-all_ids home (suc n) = all_ids home n ++ record { home = home; slot = n } ∷ []
+-- the buffer of a slot before its first use
+abbrev pub unused : CoreId → ℕ → Name
+unused home slot = record { id = record { home = home; slot = slot }; uses = 0 }
+
+-- all buffers of a core before their first use, by rising slot
+abbrev pub all_names : CoreId → ℕ → List Name
+all_names home zero = []
+all_names home (suc n) = all_names home n ++ unused home n ∷ []

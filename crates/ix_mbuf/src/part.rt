@@ -51,15 +51,16 @@ impl Part {
         self.from == self.to
     }
 
+    /// The part's bytes, in order.
     pub fn bytes(&self) -> &[u8]
         ensures { result.now ≡ piece_bytes self.now }
     {
         &self.buf.bytes()[usize::from(self.from)..usize::from(self.to)]
     }
 
-    /// The name of the part's buffer.
+    /// The id of the part's buffer.
     pub fn id(&self) -> BufId
-        ensures { result ≡ self.now.buf.id }
+        ensures { result ≡ self.now.buf.name.id }
     {
         self.buf.id()
     }

@@ -4,11 +4,13 @@ use Rattle.std.specs.Prelude.{◌==◌, if◌then◌else◌, Option}
 use Rattle.std.proofs.lemmas.Bool.Decides.{nat_tests}
 use Rattle.ix_order.specs.Wire.{accepted, dropped, Entry, frame, time, tag, move, settle, Item, Table, turned, put_by, put_on, RingIs, RingsAre, NameCores, entry_of, entries, moves}
 use Rattle.ix_order.specs.Pieces.{opened_by, adds, opening, core_in, by_tenure}
+use Rattle.ix_order.specs.Ends.{opened}
 use Rattle.ix_order.specs.Stages.{same, behind_by, part, ring_part, queue, StepsJoined}
 use Rattle.ix_order.specs.Steppers.{tagged_by}
-use Rattle.ix_order.proofs.Joined.{opened, opened-put_by, moved, core_in-now, core_in-below, over_rings-same, over_rings-one, by_tenure-same}
+use Rattle.ix_order.proofs.Joined.{opened-put_by, moved, core_in-now, core_in-below, over_rings-same, over_rings-one, by_tenure-same}
 
-abbrev behind : ℕ → Bool → List Item → Bool
+-- whether what follows stands behind the tag of g, after some items
+abbrev pub behind : ℕ → Bool → List Item → Bool
 behind g f [] = f
 behind g f (x ∷ xs) = behind g (behind_by g f x) xs
 
@@ -17,11 +19,11 @@ part-append g k b o f [] ys = refl
 part-append g k b o f (x ∷ xs) ys =
     ap (λ zs. (if same b f then adds g k o x else []) ++ zs) (part-append g k b (opened_by g o x) (behind_by g f x) xs ys) ∙ sym (append_assoc (if same b f then adds g k o x else []) _ _)
 
-abbrev flag : ℕ → ℕ → Table → Bool → Bool
+abbrev pub flag : ℕ → ℕ → Table → Bool → Bool
 flag g r t b = if r == (t g).core then b else false
 
 -- a ring's flag follows the table
-behind-put_by : (g r : ℕ) (t : Table) (b : Bool) (w : ℕ) (e : Entry) → behind g (flag g r t b) (put_by r t w e) ≡ flag g r (turned t e) (tagged_by g b e)
+pub behind-put_by : (g r : ℕ) (t : Table) (b : Bool) (w : ℕ) (e : Entry) → behind g (flag g r t b) (put_by r t w e) ≡ flag g r (turned t e) (tagged_by g b e)
 behind-put_by g r t b w (frame h (accepted s)) = grind (arith, nat_tests)
 behind-put_by g r t b w (frame h dropped) = refl
 behind-put_by g r t b w (tag h) = grind (arith, nat_tests)
@@ -51,11 +53,11 @@ of_part-over g k p t b w (e ∷ es) q =
     let rest = of_part-over g k p (turned t e) (tagged_by g b e) (suc w) es later in
     grind (arith, nat_tests)
 
-select : (at s r k j : ℕ) (ent rest : List ℕ) → (k ≡ j → (s ≡ at) ⊎ (rest ≡ []))
+pub select : (at s r k j : ℕ) (ent rest : List ℕ) → (k ≡ j → (s ≡ at) ⊎ (rest ≡ []))
     → (if r == at then (if k == j then ent else []) else []) ++ (if r == s then rest else []) ≡ (if r == (if k == j then at else s) then (if k == j then ent else []) ++ rest else [])
 select at s r k j ent rest now = grind (arith, nat_tests, append-nil)
 
-part-put_on : (g k : ℕ) (p : Bool) (r : ℕ) (t : Table) (b : Bool) (w : ℕ) (es : List Entry) → RingsAre t es
+pub part-put_on : (g k : ℕ) (p : Bool) (r : ℕ) (t : Table) (b : Bool) (w : ℕ) (es : List Entry) → RingsAre t es
     → part g k p (opening g r t) (flag g r t b) (put_on r t w es) ≡ (if r == core_in g k t es then of_part g k p t b w es else [])
 part-put_on g k p r t b w [] rings = grind (arith, nat_tests)
 part-put_on g k p r t b w (e ∷ es) rings =

@@ -3,3 +3,5 @@ pub mod Pieces
 pub mod Stages
 pub mod Steppers
 pub mod Rows
+pub mod Ends
+pub mod Order

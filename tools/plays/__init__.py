@@ -1,0 +1,1 @@
+"""The files of a play, read for people: captures, traces, and both joined row by row."""
