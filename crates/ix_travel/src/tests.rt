@@ -4,7 +4,7 @@ ghost use Rattle.ix_desk.specs.Desks.{group_at};
 
 use super::*;
 use ix_base::{CoreId, GroupId, List, NoMemory};
-use ix_desk::{DeskItem, Desks, Shipment};
+use ix_desk::{DeskItem, Desks, Shipment, Unit};
 use ix_mbuf::Pool;
 use std::alloc::Global;
 use std::collections::VecDeque;
@@ -35,7 +35,11 @@ fn away(alloc: Global, core: u8) -> Result<Desks<Tally>, NoMemory> {
 }
 
 // Takes an item that has to fit.
-fn take<R: Abort>(rt: &R, desks: &mut Desks<Tally>, it: DeskItem<Thing>) -> Result<(), NoMemory> {
+fn take<R: Abort, U: Unit>(
+    rt: &R,
+    desks: &mut Desks<U>,
+    it: DeskItem<U::Item>,
+) -> Result<(), NoMemory> {
     let fits = desks.fits(GROUP, &it);
     assert!(rt; fits);
     desks.item(GROUP, it)?;
@@ -43,7 +47,7 @@ fn take<R: Abort>(rt: &R, desks: &mut Desks<Tally>, it: DeskItem<Thing>) -> Resu
 }
 
 // Takes a shipment that has to be welcome.
-fn land<R: Abort>(rt: &R, desks: &mut Desks<Tally>, s: Shipment<Tally>) -> Result<(), NoMemory> {
+fn land<R: Abort, U: Unit>(rt: &R, desks: &mut Desks<U>, s: Shipment<U>) -> Result<(), NoMemory> {
     let welcome = desks.welcomes(&s);
     assert!(rt; welcome);
     desks.arrive(s)?;
@@ -241,30 +245,25 @@ fn buffers_travel_with_their_unit(rt: HostRuntime) -> Result<(), Fail> {
     units.push((GROUP, unit))?;
     let mut old = Desks::new(alloc, CoreId(0), units)?;
     let mut new = Desks::new(alloc, CoreId(1), Vec::new(alloc))?;
-    for it in [
-        DeskItem::Work(frame(&mut pool, 0)?),
-        DeskItem::Tag,
-        DeskItem::Work(frame(&mut pool, 2)?),
-        DeskItem::Work(frame(&mut pool, 3)?),
-        DeskItem::Cut { to: CoreId(1) },
-    ] {
-        assert!(rt; old.fits(GROUP, &it));
-        old.item(GROUP, it)?;
-    }
+    take(&rt, &mut old, DeskItem::Work(frame(&mut pool, 0)?))?;
+    take(&rt, &mut old, DeskItem::Tag)?;
+    take(&rt, &mut old, DeskItem::Work(frame(&mut pool, 2)?))?;
+    take(&rt, &mut old, DeskItem::Work(frame(&mut pool, 3)?))?;
+    take(&rt, &mut old, DeskItem::Cut { to: CoreId(1) })?;
     assert!(rt; old.has_work());
     assert_eq!(rt; old.work(&room, 64), Ok(1));
     assert!(rt; !old.has_work(), "behind the tag");
-    let start = DeskItem::Start { tenure: 1 };
-    assert!(rt; new.fits(GROUP, &start));
-    new.item(GROUP, start)?;
+    take(&rt, &mut new, DeskItem::Start { tenure: 1 })?;
     let s = old.ship().ok_or("a shipment")?;
-    assert!(rt; new.welcomes(&s));
-    new.arrive(s)?;
+    land(&rt, &mut new, s)?;
     assert_eq!(rt; new.work(&room, 64), Ok(2));
     let unit = new.unit(GROUP).ok_or("the unit")?;
     let held: Vec<u32> = unit.held.iter().map(|buf| buf.id().slot).collect(alloc)?;
     let spent: Vec<u32> = unit.spent.iter().map(|buf| buf.id().slot).collect(alloc)?;
-    assert_eq!(rt; (held.as_slice(), spent.as_slice()), ([2, 1].as_slice(), [0].as_slice()));
+    assert_eq!(rt;
+        (held.as_slice(), spent.as_slice()),
+        ([2, 1].as_slice(), [0].as_slice())
+    );
     Ok(())
 }
 
