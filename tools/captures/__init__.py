@@ -1,0 +1,1 @@
+"""Capture files for `ix`: read, prepared for a replay, and compared."""
