@@ -5,8 +5,8 @@ ghost use Rattle.ix_tcpdef.specs.Sound.{IsInRange, IsStanding, IsWritten};
 use crate::draw::Draw;
 use crate::given::{Waiting, are_given, given_by, place_of};
 use crate::twins::{FLOW, ISS, MAC, Peer, TEXT, Twins, fits};
-use ix_base::{Bytes, List, NoMemory, Ret, Seg, SegHead, WireNo};
-use ix_tcpdef::{ACK, Ask, Cfg, FIN, Input, Output, Outputs, PSH, RST, SYN, State, Tcb};
+use ix_base::{ACK, Bytes, FIN, List, NoMemory, PSH, RST, Ret, SYN, Seg, SegHead, WireNo};
+use ix_tcpdef::{Ask, Cfg, Input, Output, Outputs, State, Tcb};
 use ix_tcpin::{HeldUse, Take, Verdict, arrive};
 use std::alloc::Global;
 

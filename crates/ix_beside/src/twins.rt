@@ -4,11 +4,8 @@ ghost use Rattle.ix_tcpdef.specs.Flush.{is_due as due_test};
 ghost use Rattle.ix_tcpdef.specs.Sound.{FitsPeer, IsInRange, IsStanding, IsWritten, has_windows as windows_test};
 
 use crate::draw::Draw;
-use ix_base::{Bytes, Flow, NoMemory, Ret, Seg, SegHead, WireNo};
-use ix_tcpdef::{
-    ACK, Ask, BEHIND_HEADER, Cfg, Input, Output, Outputs, SYN, State, Tcb, World1, step_plain,
-    unopened,
-};
+use ix_base::{ACK, Bytes, Flow, NoMemory, Ret, SYN, Seg, SegHead, WireNo};
+use ix_tcpdef::{Ask, BEHIND_HEADER, Cfg, Input, Output, Outputs, State, Tcb, World1, step_plain, unopened};
 use ix_tcpout::{Outs, expire, flush};
 use std::alloc::Global;
 

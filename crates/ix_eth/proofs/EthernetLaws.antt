@@ -1,8 +1,10 @@
 -- The header of a frame reads back.
-use Rattle.std.proofs.Common.{◌≡◌, ℕ, ◌+◌, ◌<◌, List, [], ◌∷◌, length, Bool, true, false, Option, Some, refl, ap, arith, ◌∙◌}
-use Rattle.std.specs.Prelude.{if◌then◌else◌, nat_lt}
+use Rattle.std.proofs.Common.{◌≡◌, ℕ, ◌+◌, ◌<◌, List, [], ◌∷◌, length, Option, Some, refl, ap, arith, ◌∙◌}
+use Rattle.std.specs.Prelude.{nat_lt}
 use Rattle.std.proofs.lemmas.Bool.Decides.{nat_tests}
 use Rattle.byteorder.specs.Endian.{big_from, big_bytes}
+use Rattle.byteorder.specs.Numbers.{big_number-reads_back}
+use Rattle.ix_base.specs.Branches.{past}
 use Rattle.ix_eth.specs.Ethernet.{Ethernet, ethernet_of, ethernet_parts, ethernet_header, IsHeader}
 
 -- what holds of every six bytes holds of a list with six
@@ -16,17 +18,9 @@ on_six P h (a ∷ b ∷ c ∷ d ∷ e ∷ []) len = absurd (omega arith)
 on_six P h (a ∷ b ∷ c ∷ d ∷ e ∷ f ∷ []) len = h a b c d e f
 on_six P h (a ∷ b ∷ c ∷ d ∷ e ∷ f ∷ g ∷ xs) len = absurd (omega arith)
 
--- a test that fails
-past : {A : Type 0} (b : Bool) (x y z : A) → b ≡ false → y ≡ z → (if b then x else y) ≡ z
-past true x y z e f = cc
-past false x y z e f = f
-
 long_enough : (frame : List ℕ) → 14 < length frame + 1 → ethernet_of frame ≡ Some (ethernet_parts frame)
 unfolding ethernet_of
 long_enough frame h = past (nat_lt (length frame) 14) _ _ _ (grind (arith, nat_tests)) refl
-
-word_back : (n : ℕ) → n < 65536 → big_from 0 2 (big_bytes 2 n) ≡ n
-word_back n h = omega arith
 
 with_kind : (dst src rest : List ℕ) (k kind : ℕ) → k ≡ kind
     → ◌≡◌ {A = Option Ethernet} (Some (record { dst = dst; src = src; kind = k; rest = rest })) (Some (record { dst = dst; src = src; kind = kind; rest = rest }))
@@ -37,5 +31,5 @@ header_read dst src kind hd hs hk =
     on_six (λ d. IsHeader d src kind (ethernet_header d src kind))
     (λ a b c d e f. on_six (λ s. IsHeader (a ∷ b ∷ c ∷ d ∷ e ∷ f ∷ []) s kind (ethernet_header (a ∷ b ∷ c ∷ d ∷ e ∷ f ∷ []) s kind))
     (λ g h i j k l. λ rest. long_enough _ (omega arith)
-    ∙ with_kind (a ∷ b ∷ c ∷ d ∷ e ∷ f ∷ []) (g ∷ h ∷ i ∷ j ∷ k ∷ l ∷ []) rest (big_from 0 2 (big_bytes 2 kind)) kind (word_back kind hk)) src hs)
+    ∙ with_kind (a ∷ b ∷ c ∷ d ∷ e ∷ f ∷ []) (g ∷ h ∷ i ∷ j ∷ k ∷ l ∷ []) rest (big_from 0 2 (big_bytes 2 kind)) kind (big_number-reads_back 2 kind [] hk)) src hs)
     dst hd

@@ -1,3 +1,4 @@
 pub mod Bits
 pub mod Toeplitz
+pub mod Key
 pub mod Group

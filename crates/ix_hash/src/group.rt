@@ -3,7 +3,7 @@ ghost use Rattle.std.specs.Prelude.{◌≡◌, ◌<◌};
 ghost use Rattle.ix_hash.specs.Group.{flow_bytes, hash_of_flow, group_of_flow};
 
 use crate::hash::{KEY, toeplitz};
-use ix_base::{Flow, GroupId};
+use ix_base::{FLOW_GROUPS, Flow, GroupId};
 
 /// What is hashed of a flow, in network order: remote address, local address, remote port, local port.
 fn flow_bytes(flow: &Flow) -> [u8; 12]
@@ -17,6 +17,7 @@ fn flow_bytes(flow: &Flow) -> [u8; 12]
 }
 
 /// The hash of a flow under [`KEY`].
+#[tactic(auto, unfolding(crate::specs::Key::key))]
 pub fn flow_hash(flow: &Flow) -> u32
     ensures { result ≡ hash_of_flow flow.now }
 {
@@ -26,9 +27,9 @@ pub fn flow_hash(flow: &Flow) -> u32
 /// The group of a flow: the low nine bits of its hash.
 pub fn group_of(flow: &Flow) -> GroupId
     ensures group { result.0 ≡ group_of_flow flow.now }
-    ensures below { result.0 < 512 }
+    ensures below { result.0 < FLOW_GROUPS }
 {
-    GroupId((flow_hash(flow) % 512) as u16)
+    GroupId((flow_hash(flow) % FLOW_GROUPS as u32) as u16)
 }
 
 #[cfg(test)]

@@ -1,3 +1,4 @@
 pub mod Sum
 pub mod Packet
 pub mod Header
+pub mod SumLaws

@@ -44,9 +44,17 @@ packet_of bytes =
     else if not (fragment_bits bytes == 0) then Err faults.Fragment
     else Ok (packet_parts bytes)
 
--- A packet's payload lies within the bytes that it is read from, behind a header of at least 20 bytes.
+-- A packet's payload is these of the bytes that it is read from, behind a header of at least 20 bytes, and lies within them.
+pub record LiesWithin (bytes : List ℕ) (p : Packet) : Type 0 where
+  -- how long the header is
+  pub start : ℕ
+  pub behind : 20 ≤ start
+  pub at : p.at ≡ 14 + start
+  pub within : start + length p.payload ≤ length bytes
+  pub payload : p.payload ≡ take (length p.payload) (drop start bytes)
+
 abbrev pub PayloadsLieWithin : Type 0
-PayloadsLieWithin = (bytes : List ℕ) (p : Packet) → packet_of bytes ≡ Ok p → length p.payload + 20 ≤ length bytes
+PayloadsLieWithin = (bytes : List ℕ) (p : Packet) → packet_of bytes ≡ Ok p → LiesWithin bytes p
 
 -- The flow that a packet names: a packet of protocol 6 with the four bytes of two ports at the head of its payload. It was sent by the
 -- remote end.

@@ -3,7 +3,7 @@ ghost use Rattle.std.specs.Prelude.{◌≡◌, ◌+◌, ◌*◌, ◌<◌, ◌^�
 ghost use Rattle.ix_ip.specs.Sum.{carried, word_sum, sum16_of, pseudo_header, transport_sum_of};
 
 /// One's complement addition: the carry goes back in at the low end.
-#[tactic(auto, using(crate::proofs::SumLaws::carried_steps))]
+#[tactic(auto, using(crate::specs::SumLaws::carried_steps))]
 fn ones_added(sum: u16, word: u16) -> u16
     ensures { result ≡ carried (sum + word) }
 {

@@ -7,6 +7,7 @@ use Rattle.std.proofs.lemmas.List.Elements.{All-head, All-tail}
 use Rattle.std.proofs.lemmas.Bool.Decides.{nat_tests}
 use Rattle.byteorder.specs.Endian.{little_number, little_bytes}
 use Rattle.byteorder.specs.Numbers.{little_number-reads_back}
+use Rattle.ix_base.specs.Branches.{past}
 use Rattle.ix_pcap.specs.declared.records.Span.{Span}
 use Rattle.ix_pcap.specs.declared.records.CaptureFault.{CaptureFault}
 use Rattle.ix_pcap.specs.declared.records.CaptureFault.TheVariants.{CutHeader}
@@ -105,10 +106,6 @@ frames-written front (one ∷ rest) =
     ∙ frames-written (front ++ record_bytes one) rest in
     ap (λ (l : List (List ℕ)). bytes_at all (record { from = length front + 16; to = length front + 16 + len }) ∷ l) others
     ∙ ap (λ (frame : List ℕ). frame ∷ map (λ (one : Sent). one.frame) rest) first
-
-past : {A : Type 0} (test : Bool) (x y z : A) → test ≡ false → y ≡ z → (if test then x else y) ≡ z
-past true x y z failed same = cc
-past false x y z failed same = same
 
 pub length-header_bytes : length header_bytes ≡ 24
 unfolding header_bytes

@@ -30,8 +30,8 @@ use Rattle.ix_seg.specs.Written.{frame_bytes, mss_option, segment_bytes, segment
 use Rattle.ix_seg.specs.declared.segment.SegFault.{SegFault}
 use Rattle.ix_side.specs.Echo.{datagram_len, datagram_of, icmp_answer, icmp_reply, udp_answer, udp_reply}
 use Rattle.ix_side.specs.Side.{side_of}
-use Rattle.ix_tcpdef.specs.Numbers.{has_flag}
-use Rattle.ix_tcpdef.specs.declared.types.TheConstants.{ACK, RST}
+use Rattle.ix_base.specs.Flags.{has_flag}
+use Rattle.ix_base.specs.declared.segment.TheConstants.{ACK, RST}
 use Rattle.ix_playdef.specs.Replies.{IsShortIfAny, IsShortlyAnswered}
 use Rattle.ix_playdef.specs.Wire.{cycle_by, cycles_of}
 use Rattle.ix_playdef.specs.declared.wire.Given.{Given}

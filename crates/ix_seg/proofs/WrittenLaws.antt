@@ -1,20 +1,22 @@
 -- The frame that is written, and that its receiver reads it.
-use Rattle.std.proofs.Common.{◌≡◌, ℕ, ◌+◌, ◌*◌, ◌/◌, ◌-◌, ◌<◌, ◌≤◌, ◌^◌, List, ◌++◌, length, take, drop, refl, ◌∙◌, sym, ap, append_assoc, length-append, arith, Bool, true, false, Option, Some, None}
+use Rattle.std.proofs.Common.{◌≡◌, ℕ, ◌+◌, ◌*◌, ◌/◌, ◌-◌, ◌<◌, ◌≤◌, ◌^◌, List, [], ◌++◌, length, take, drop, refl, ◌∙◌, sym, ap, append_assoc, length-append, arith, Bool, true, false, Option, Some, None}
 use Rattle.std.specs.Prelude.{nat_lt, ◌==◌, not, ◌||◌, ◌&&◌, Ok, IfSome}
 use Rattle.std.proofs.lemmas.Bool.Decides.{nat_tests}
 use Rattle.std.proofs.lemmas.List.{take_at, drop_at}
 use Rattle.byteorder.specs.Endian.{big_from, big_bytes}
+use Rattle.byteorder.specs.Numbers.{big_number-reads_back}
+use Rattle.ix_base.specs.Branches.{past}
 use Rattle.ix_base.specs.declared.frame.Local.{Local}
 use Rattle.ix_base.specs.declared.segment.SegHead.{SegHead}
 use Rattle.ix_eth.specs.Ethernet.{ethernet_header, IsHeader}
 use Rattle.ix_ip.specs.Sum.{carried, word_sum, pseudo_header, transport_sum_of}
 use Rattle.ix_ip.specs.Header.{ip_header, IsPacketHeader}
 use Rattle.ix_ip.specs.Packet.{Packet}
-use Rattle.ix_ip.proofs.SumLaws.{carried-append, carried-complement}
+use Rattle.ix_ip.specs.SumLaws.{carried-append, carried-complement}
 use Rattle.ix_seg.specs.Options.{mss_of}
 use Rattle.ix_seg.specs.Segment.{Segment, segment_of, segment_at, header_len}
 use Rattle.ix_seg.specs.Written.{mss_option, offset_byte, tcp_header_with, segment_with, segment_bytes, frame_bytes, exchanged, IsInRange, IsReceived, receiver}
-use Rattle.ix_seg.proofs.FrameLaws.{past, read_by_parts}
+use Rattle.ix_seg.proofs.FrameLaws.{read_by_parts}
 
 pub length-segment_with : (h : SegHead) (body : List ℕ) (sum : ℕ) → length (segment_with h body sum) ≡ 20 + length (mss_option h.mss) + length body
 length-segment_with h body sum =
@@ -87,15 +89,9 @@ pub option_short : (mss : Option ℕ) → length (mss_option mss) ≤ 4
 option_short None = omega arith
 option_short (Some mss) = omega arith
 
-word_back : (n : ℕ) → n < 65536 → big_from 0 2 (big_bytes 2 n) ≡ n
-word_back n h = omega arith
-
-long_back : (n : ℕ) → n < 2 ^ 32 → big_from 0 4 (big_bytes 4 n) ≡ n
-long_back n h = omega arith
-
 mss_back : (mss : Option ℕ) → IfSome mss (λ m. m < 2 ^ 16) → mss_of (mss_option mss) ≡ mss
 mss_back None h = refl
-mss_back (Some mss) h = ap Some (word_back mss h)
+mss_back (Some mss) h = ap Some (big_number-reads_back 2 mss [] h)
 
 and_false : (b c : Bool) → c ≡ false → (b && c) ≡ false
 and_false true c h = h
@@ -155,8 +151,8 @@ module _ (h : SegHead) (body : List ℕ) (range : IsInRange h) (mss_range : IfSo
       same_segment (big_from 0 2 (big_bytes 2 h.flow.local_port)) (big_from 0 2 (big_bytes 2 h.flow.remote_port)) (big_from 0 4 (big_bytes 4 h.seq))
       (big_from 0 4 (big_bytes 4 h.ack)) (big_from 0 2 (big_bytes 2 h.window)) (mss_of (take (start - 20) (mss_option h.mss ++ body))) (34 + start)
       (drop start ((header ++ mss_option h.mss) ++ body))
-      (word_back h.flow.local_port range.local_port) (word_back h.flow.remote_port range.remote_port) (long_back h.seq range.seq)
-      (long_back h.ack range.ack) (word_back h.window range.window)
+      (big_number-reads_back 2 h.flow.local_port [] range.local_port) (big_number-reads_back 2 h.flow.remote_port [] range.remote_port) (big_number-reads_back 4 h.seq [] range.seq)
+      (big_number-reads_back 4 h.ack [] range.ack) (big_number-reads_back 2 h.window [] range.window)
       (ap mss_of (take_at (mss_option h.mss) body (start - 20) (omega arith)) ∙ mss_back h.mss mss_range)
       (omega arith)
       (drop_at (header ++ mss_option h.mss) body start (length-append header (mss_option h.mss) ∙ sym is))

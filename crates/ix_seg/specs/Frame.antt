@@ -1,6 +1,6 @@
 -- What a frame is: one segment for this machine or one disposition. The tests are made in this order, and the first that applies
 -- decides: Ethernet (RFC 894), ARP (RFC 826), IPv4 (RFC 791), TCP (RFC 9293).
-use Rattle.std.specs.Prelude.{◌≡◌, ℕ, List, Bool, not, Option, Some, None, option_and_then, Result, Ok, Err, if◌then◌else◌, ◌==◌}
+use Rattle.std.specs.Prelude.{◌≡◌, ◌≤◌, ◌+◌, ℕ, List, length, take, drop, Bool, not, Option, Some, None, option_and_then, Result, Ok, Err, if◌then◌else◌, ◌==◌}
 use Rattle.ix_base.specs.declared.frame.Local.{Local}
 use Rattle.ix_base.specs.declared.frame.Disposition.{Disposition}
 use Rattle.ix_base.specs.declared.frame.Disposition.TheVariants as dispositions
@@ -80,3 +80,18 @@ ReadsAs other local check frame (Err d) = segment_of_frame other local check fra
 -- the flow that a frame names: that of a packet without a fault whose protocol is TCP, whether it is a segment or not
 unfoldable pub flow_of_frame : List ℕ → Option Flow
 flow_of_frame frame = option_and_then (λ e. flow_behind e.kind e.rest) (ethernet_of frame)
+
+-- A segment's body is these of its frame's bytes, and lies within them.
+pub record LiesWithin (frame : List ℕ) (s : Seg) : Type 0 where
+  pub len : s.head.len ≡ length s.body
+  pub within : s.head.at + s.head.len ≤ length frame
+  pub body : s.body ≡ take s.head.len (drop s.head.at frame)
+
+abbrev pub SegmentsLieWithin : Type 0
+SegmentsLieWithin =
+    (other : Packet → Disposition) (local : Local) (check : Bool) (frame : List ℕ) (s : Seg) → segment_of_frame other local check frame ≡ Ok s → LiesWithin frame s
+
+abbrev pub SegmentsNameTheirFlow : Type 0
+SegmentsNameTheirFlow =
+    (other : Packet → Disposition) (local : Local) (check : Bool) (frame : List ℕ) (s : Seg) → segment_of_frame other local check frame ≡ Ok s
+    → flow_of_frame frame ≡ Some s.head.flow

@@ -1,4 +1,3 @@
-pub mod Offset
 pub mod Options
 pub mod Segment
 pub mod Frame

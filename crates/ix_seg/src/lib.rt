@@ -2,6 +2,7 @@
 #![tactic(auto)]
 
 mod frame;
+mod laws;
 mod options;
 mod segment;
 mod sequence;
@@ -10,6 +11,7 @@ mod tests;
 mod written;
 
 pub use frame::{SegFrame, read_frame};
+pub use laws::{segments_lie_within, segments_name_their_flow};
 pub use segment::{SegFault, SegView, TCP};
 pub use sequence::offset;
 pub use written::write_frame;

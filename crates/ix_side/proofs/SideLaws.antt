@@ -1,14 +1,15 @@
 -- Answers have right sums.
-use Rattle.std.proofs.Common.{◌≡◌, ◌≢◌, ℕ, zero, suc, ◌+◌, ◌/◌, ◌-◌, ◌<◌, ◌≤◌, List, ◌∷◌, ◌++◌, length, take, drop, refl, ◌∙◌, sym, ap, subst, append_assoc, length-append, arith, Bool, true, false}
+use Rattle.std.proofs.Common.{◌≡◌, ◌≢◌, ℕ, zero, suc, ◌+◌, ◌/◌, ◌-◌, ◌<◌, ◌≤◌, List, [], ◌∷◌, ◌++◌, length, take, drop, refl, ◌∙◌, sym, ap, subst, append_assoc, length-append, arith, Bool, true, false}
 use Rattle.std.specs.Prelude.{if◌then◌else◌, nat_lt, ◌==◌, not, ◌||◌, Result, Ok, Err, IfOk, slice_index}
 use Rattle.std.proofs.lemmas.Bool.Decides.{nat_tests}
 use Rattle.std.proofs.lemmas.List.{take_rest, length-take, length-drop}
+use Rattle.byteorder.specs.Numbers.{big_number-reads_back}
 use Rattle.byteorder.specs.Endian.{big_from, big_bytes}
 use Rattle.ix_ip.specs.declared.packet.IpFault.{IpFault}
 use Rattle.ix_ip.specs.declared.packet.IpFault.TheVariants as faults
 use Rattle.ix_ip.specs.Packet.{Packet, packet_of, header_len, total_len, fragment_bits}
 use Rattle.ix_ip.specs.Sum.{carried, word_sum, sum16_of, is_summed, pseudo_header, transport_sum_of}
-use Rattle.ix_ip.proofs.SumLaws.{carried-append, carried-below, carried-complement, carried-ones}
+use Rattle.ix_ip.specs.SumLaws.{carried-append, carried-below, carried-complement, carried-ones}
 use Rattle.ix_base.specs.declared.frame.Local.{Local}
 use Rattle.ix_eth.specs.Ethernet.{Ethernet, ethernet_of, IsHeader}
 use Rattle.ix_ip.specs.Header.{ip_header, IsPacketHeader}
@@ -59,14 +60,11 @@ udp_right src dst d =
 shown_above : (c : ℕ) → shown c ≢ 0
 shown_above c = λ h. grind (arith, nat_tests)
 
-word_back : (n : ℕ) → n < 65536 → big_from 0 2 (big_bytes 2 n) ≡ n
-word_back n h = omega arith
-
 pub udp_summed : (src dst : ℕ) (d : List ℕ) → big_from 6 2 (udp_reply src dst d) ≢ 0
 unfolding udp_reply
 udp_summed src dst d = λ none.
     let c = transport_sum_of src dst 17 (udp_with d 0) in
-    shown_above c (sym (word_back (shown c) (shown_below c (omega arith))) ∙ none)
+    shown_above c (sym (big_number-reads_back 2 (shown c) [] (shown_below c (omega arith))) ∙ none)
 
 -- three pieces are summed as one
 three_summed : (p h b : List ℕ) (k j : ℕ) (s t u : ℕ) → length p ≡ k + k → length h ≡ j + j → s ≡ carried (word_sum p) → t ≡ carried (s + word_sum h)

@@ -4,7 +4,7 @@ ghost use Rattle.ix_side.specs.Echo.{is_icmp_echo, icmp_answer, icmp_reply};
 ghost use Rattle.ix_side.specs.Side.{IsRightIcmp, IsWritten};
 
 use crate::reply::put_headers;
-use ix_base::Local;
+use ix_base::{BUFFER_BYTES, Local};
 use ix_eth::{EthView, put_bytes};
 use ix_ip::{IpView, sum16};
 
@@ -28,8 +28,8 @@ pub fn is_icmp_echo(ip: &IpView<'_>) -> bool
 /// Writes the answer to an echo request, and gives its length.
 pub fn icmp_answer(view: &EthView<'_>, ip: &IpView<'_>, local: &Local, out: &mut [u8]) -> usize
     requires whole { 8 ≤ length ip.now.payload }
-    requires small { length ip.now.payload + 34 ≤ 2048 }
-    requires room { 2048 ≤ length out.old }
+    requires small { length ip.now.payload + 34 ≤ BUFFER_BYTES }
+    requires room { BUFFER_BYTES ≤ length out.old }
     ensures written { IsWritten (icmp_answer view.now ip.now local.now) result out.old out.new }
     ensures right { IsRightIcmp view.now ip.now local.now (icmp_reply ip.now.payload) (take result out.new) }
 {

@@ -5,7 +5,7 @@ ghost use Rattle.ix_side.specs.Side.{side_of, disposition_of, Answers, IsRight};
 
 use crate::icmp::{icmp_answer, is_icmp_echo};
 use crate::udp::{is_udp_echo, udp_answer};
-use ix_base::Local;
+use ix_base::{BUFFER_BYTES, Local};
 use ix_eth::EthView;
 use ix_ip::{IpView, payloads_lie_within};
 
@@ -24,9 +24,9 @@ pub enum Side {
 /// (RFC 792, RFC 768) exactly where its sums are right; a UDP checksum of 0 is none. Nothing is written for any other packet.
 #[tactic(auto, unfolding(crate::specs::Side::side_of))]
 pub fn side_answer(view: &EthView<'_>, ip: &IpView<'_>, local: &Local, out: &mut [u8]) -> Side
-    requires size { length view.now.rest + 14 ≤ 2048 }
+    requires size { length view.now.rest + 14 ≤ BUFFER_BYTES }
     requires packet { packet_of view.now.rest ≡ Ok ip.now }
-    requires room { 2048 ≤ length out.old }
+    requires room { BUFFER_BYTES ≤ length out.old }
 
     ensures kind { disposition_of result ≡ side_of ip.now }
     ensures answer { Answers view.now ip.now local.now out.old out.new result }

@@ -6,7 +6,7 @@ ghost use Rattle.ix_side.specs.Side.{IsRightUdp, IsWritten};
 
 use crate::reply::put_headers;
 use byteorder::{BigEndian, ByteOrder};
-use ix_base::Local;
+use ix_base::{BUFFER_BYTES, Local};
 use ix_eth::{EthView, put_bytes};
 use ix_ip::{IpView, ones_sum, pseudo_sum, transport_sum};
 
@@ -82,8 +82,8 @@ fn answer_sum(src: u32, dst: u32, datagram: &[u8]) -> u16
 pub fn udp_answer(view: &EthView<'_>, ip: &IpView<'_>, local: &Local, out: &mut [u8]) -> usize
     requires header { 8 ≤ datagram_len ip.now.payload }
     requires within { datagram_len ip.now.payload ≤ length ip.now.payload }
-    requires small { length ip.now.payload + 34 ≤ 2048 }
-    requires room { 2048 ≤ length out.old }
+    requires small { length ip.now.payload + 34 ≤ BUFFER_BYTES }
+    requires room { BUFFER_BYTES ≤ length out.old }
     ensures written { IsWritten (udp_answer view.now ip.now local.now) result out.old out.new }
     ensures right { IsRightUdp view.now ip.now local.now (udp_reply local.now.ip ip.now.src (datagram_of ip.now.payload)) (take result out.new) }
 {

@@ -2,8 +2,8 @@
 ghost use Rattle.std.specs.Prelude.{◌≤◌, IfOk, IfSome, length};
 ghost use Rattle.ix_tcpdef.specs.Sound.{IsWritten};
 
-use ix_base::{Bytes, Flow, NoMemory, Ret, Seg, SegHead, WireNo};
-use ix_tcpdef::{Ask, BEHIND_HEADER, BEHIND_SYN, Input, Output, SYN, State, Told};
+use ix_base::{Bytes, Flow, NoMemory, Ret, SYN, Seg, SegHead, WireNo};
+use ix_tcpdef::{Ask, BEHIND_HEADER, BEHIND_SYN, Input, Output, State, Told};
 use std::alloc::Global;
 
 /// What happens to the connection, or what it must give then.

@@ -2,8 +2,8 @@
 ghost use Rattle.ix_tcpdef.specs.Sound.{IsInRange};
 
 use crate::{Line, first_wrong};
-use ix_base::{List, NoMemory, Ret, WireNo};
-use ix_tcpdef::{ACK, Cfg, FIN, PSH, RST, SYN, State, Told};
+use ix_base::{ACK, FIN, List, NoMemory, PSH, RST, Ret, SYN, WireNo};
+use ix_tcpdef::{Cfg, State, Told};
 use std::alloc::Global;
 use std::process::Abort;
 

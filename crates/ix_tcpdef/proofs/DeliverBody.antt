@@ -8,7 +8,8 @@ use Rattle.std.proofs.lemmas.Grind.{common_steps}
 use Rattle.std.proofs.lemmas.List.{take-append-drop, drop-drop, drop-append-le, map-append}
 use Rattle.ix_base.specs.declared.segment.Seg.{Seg}
 use Rattle.ix_base.specs.declared.id.WireNo.{WireNo}
-use Rattle.ix_tcpdef.specs.Numbers.{number, ahead, offset, past_of, behind_of, has_flag}
+use Rattle.ix_base.specs.Sequence.{number, ahead, offset, past_of, behind_of}
+use Rattle.ix_base.specs.Flags.{has_flag}
 use Rattle.ix_tcpdef.specs.Connection.{rcv_wnd, seq_of, tells, ended}
 use Rattle.ix_tcpdef.specs.Frames.{ack_frame}
 use Rattle.ix_tcpdef.specs.Calls.{recv_of}
@@ -28,7 +29,7 @@ use Rattle.ix_tcpdef.specs.declared.types.Job.{Job}
 use Rattle.ix_tcpdef.specs.declared.types.Output.{Output}
 use Rattle.ix_tcpdef.specs.declared.types.Output.TheVariants as outputs
 use Rattle.ix_tcpdef.specs.declared.types.Told.{Told}
-use Rattle.ix_tcpdef.specs.declared.types.TheConstants.{FIN}
+use Rattle.ix_base.specs.declared.segment.TheConstants.{FIN}
 
 -- ## Words
 abbrev pub total : List Piece → ℕ

@@ -9,7 +9,9 @@ use Rattle.ix_base.specs.declared.segment.Seg.{Seg}
 use Rattle.ix_base.specs.declared.segment.Ret.TheVariants as rets
 use Rattle.ix_base.specs.declared.id.WireNo.{WireNo}
 use Rattle.ix_base.specs.declared.id.Flow.{Flow}
-use Rattle.ix_tcpdef.specs.Numbers.{number, offset, is_past, is_at_or_past, has_flag, later}
+use Rattle.ix_base.specs.Sequence.{number, offset, is_past, is_at_or_past}
+use Rattle.ix_base.specs.Flags.{has_flag}
+use Rattle.ix_tcpdef.specs.Ticks.{later}
 use Rattle.ix_tcpdef.specs.Connection.{snd_una, snd_nxt, rcv_nxt, rcv_wnd, seq_of, acked_data, room, is_listen, is_syn_sent, is_syn_received, is_time_wait, gives, on, ended}
 use Rattle.ix_tcpdef.specs.Frames.{plain_frame, ack_frame, reset_frame, syn_frame, syn_ack_frame, fin_frame}
 use Rattle.ix_tcpdef.specs.Opening.{opens, passive, opening, active, connecting, connected, syn_sent}
@@ -42,7 +44,7 @@ use Rattle.ix_tcpdef.specs.declared.types.Input.TheVariants as inputs
 use Rattle.ix_tcpdef.specs.declared.types.Output.{Output}
 use Rattle.ix_tcpdef.specs.declared.types.Output.TheVariants as outputs
 use Rattle.ix_tcpdef.specs.declared.types.Told.TheVariants as told
-use Rattle.ix_tcpdef.specs.declared.types.TheConstants.{ACK, FIN, RST, SYN}
+use Rattle.ix_base.specs.declared.segment.TheConstants.{ACK, FIN, RST, SYN}
 
 -- ## Parts that leave the receiving side as it was
 pub record SameTold (v w : Connection) : Type 0 where
@@ -112,7 +114,7 @@ record DeliversNext (past : Past) (before : List Output) (n : Next) : Type 0 whe
   at : DeliversAt past before (job_of n).connection (job_of n).outputs
 
 -- a check that lets a segment go on leaves the job as it was, and has found this
-abbrev LetsBy : Type 0 → Job → Next → Type 0
+abbrev pub LetsBy : Type 0 → Job → Next → Type 0
 LetsBy E j (Goes k) = (k ≡ j) × E
 LetsBy E j (Stops k) = Unit {0}
 
@@ -121,7 +123,7 @@ delivers-then E past before j (Goes k) f lets d more =
     subst (λ (v : Job). DeliversNext past before (f v)) (sym lets.0) (more lets.1 (subst (λ (v : Job). DeliversAt past before v.connection v.outputs) lets.0 d.at))
 delivers-then E past before j (Stops k) f lets d more = record { at = d.at }
 
-lets-acceptability : (cfg : Cfg) (h : SegHead) (now : ℕ) (j : Job) → LetsBy (Unit {0}) j (acceptability cfg h now j)
+pub lets-acceptability : (cfg : Cfg) (h : SegHead) (now : ℕ) (j : Job) → LetsBy (Unit {0}) j (acceptability cfg h now j)
 unfolding acceptability
 lets-acceptability cfg h now j =
     let P : Next → Type 0 = LetsBy (Unit {0}) j in
@@ -129,7 +131,7 @@ lets-acceptability cfg h now j =
     (λ _. cond_both (has_flag h.flags RST) _ _ P (λ _. tt)
     (λ _. cond_both (has_flag h.flags FIN && is_time_wait j.connection.state) _ _ P (λ _. tt) (λ _. tt)))
 
-lets-reset : (cfg : Cfg) (h : SegHead) (j : Job) → LetsBy (Unit {0}) j (reset cfg h j)
+pub lets-reset : (cfg : Cfg) (h : SegHead) (j : Job) → LetsBy (Unit {0}) j (reset cfg h j)
 unfolding reset
 lets-reset cfg h j =
     let P : Next → Type 0 = LetsBy (Unit {0}) j in
@@ -140,14 +142,14 @@ not-set : (b : Bool) → not b ≡ true → b ≡ false
 not-set false e = refl
 not-set true e = cc
 
-lets-synchronize : (cfg : Cfg) (h : SegHead) (j : Job) → LetsBy (has_flag h.flags SYN ≡ false) j (synchronize cfg h j)
+pub lets-synchronize : (cfg : Cfg) (h : SegHead) (j : Job) → LetsBy (has_flag h.flags SYN ≡ false) j (synchronize cfg h j)
 unfolding synchronize
 lets-synchronize cfg h j =
     let P : Next → Type 0 = LetsBy (has_flag h.flags SYN ≡ false) j in
     cond_both (not (has_flag h.flags SYN)) _ _ P (λ e. (refl, not-set (has_flag h.flags SYN) e))
     (λ _. cond_both (is_syn_received j.connection.state) _ _ P (λ _. tt) (λ _. tt))
 
-lets-unacknowledged : (h : SegHead) (j : Job) → LetsBy (Unit {0}) j (unacknowledged h j)
+pub lets-unacknowledged : (h : SegHead) (j : Job) → LetsBy (Unit {0}) j (unacknowledged h j)
 unfolding unacknowledged
 lets-unacknowledged h j =
     cond_both (has_flag h.flags ACK) _ _ (LetsBy (Unit {0}) j) (λ _. (refl, tt)) (λ _. tt)
@@ -762,7 +764,7 @@ delivers-run (m ∷ ms) past before cfg w range written say k d =
     (delivers-next (next_past m past) before (step cfg w m.input m.clock).connection (step cfg w m.input m.clock).outputs
     (delivers-stepped m.input m.clock past before cfg w say.0 k (delivers-later m past before w d))))
 
-kept-listening : (cfg : Cfg) (flow : Flow) (peer_mac : List ℕ) (iss : ℕ) → IsKept cfg (listening flow peer_mac iss)
+pub kept-listening : (cfg : Cfg) (flow : Flow) (peer_mac : List ℕ) (iss : ℕ) → IsKept cfg (listening flow peer_mac iss)
 kept-listening cfg flow peer_mac iss =
     record {
       sound = record {

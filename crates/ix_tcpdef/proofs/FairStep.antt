@@ -7,7 +7,8 @@ use Rattle.std.proofs.lemmas.List.{take-append-drop, drop-drop}
 use Rattle.std.proofs.Math.Seq.{drop-append_seam}
 use Rattle.std.proofs.lemmas.List.Elements.{All-append, All-cons, All-nil, All-weaker}
 use Rattle.ix_base.specs.declared.segment.Ret.TheVariants as rets
-use Rattle.ix_tcpdef.specs.Numbers.{number, later}
+use Rattle.ix_base.specs.Sequence.{number}
+use Rattle.ix_tcpdef.specs.Ticks.{later}
 use Rattle.ix_tcpdef.specs.Connection.{rcv_nxt, is_listen, is_time_wait, is_syn_sent, on, ended}
 use Rattle.ix_tcpdef.specs.Frames.{fin_frame}
 use Rattle.ix_tcpdef.specs.Flush.{unacked, unsent, first_of, first_unacked_in, first_unacked, resends, resent, sends, usable, sendable, data_frames, data_sent, fin_sent, ack_sent, waits_for_window, armed, flushed, is_due, backed_off, timed_out, collapsed_in, collapsed, retransmitted, probed, expired}
@@ -39,15 +40,17 @@ front-of-front k m s =
     sym (take-append-drop m s) ∙ ap (λ (t : List ℕ). t ++ drop m s) (sym (take-append-drop k (take m s))) ∙ append_assoc (take k (take m s)) (drop k (take m s)) (drop m s)
 
 -- what a step before which old stood sends of the stream
-fair-first_of : (cfg : Cfg) (old w new : Connection) (bytes : List ℕ) → bytes ≡ unacked w → 1 ≤ w.una → w.una ≤ w.nxt → w.iss ≡ new.iss → w.sent ≡ new.sent → w.nxt ≡ old.nxt → Carries old new (first_of cfg w bytes)
-fair-first_of cfg old w new [] e least order iss sent nxt = inl refl
-fair-first_of cfg old w new (b ∷ bytes) e least order iss sent nxt =
+fair-first_of : (cfg : Cfg) (old w new : Connection) (bytes : List ℕ) → bytes ≡ unacked w → 1 ≤ w.una → w.una ≤ w.nxt → w.iss ≡ new.iss → w.sent ≡ new.sent → w.una ≡ old.una → w.nxt ≡ old.nxt → w.nxt ≡ new.nxt → Carries old new (first_of cfg w bytes)
+fair-first_of cfg old w new [] e least order iss sent una nxt still = inl refl
+fair-first_of cfg old w new (b ∷ bytes) e least order iss sent una nxt still =
     let len : length (unacked w) ≡ _ = length-take (w.nxt - w.una) (drop (w.una - 1) w.sent) in
     let cut : length (take w.mss (b ∷ bytes)) ≡ _ = length-take w.mss (b ∷ bytes) in
     let whole : length (b ∷ bytes) ≡ length (unacked w) = ap length e in
     inr (record {
       at = w.una;
       first = least;
+      from = omega (arith, una);
+      to = omega (arith, len, cut, whole, still, order);
       seq = ap (λ n. number n w.una) iss;
       rest = drop w.mss (unacked w) ++ drop (w.nxt - w.una) (drop (w.una - 1) w.sent);
       body = ap (λ (s : List ℕ). drop (w.una - 1) s) (sym sent)
@@ -57,13 +60,13 @@ fair-first_of cfg old w new (b ∷ bytes) e least order iss sent nxt =
     })
 
 -- the states in which there may be something to send again
-fair-first_in : (s : State) (cfg : Cfg) (old w new : Connection) → w.state ≡ s → is_alive s ≡ true → (carries w.state ≡ true → 1 ≤ w.una) → w.una ≤ w.nxt → w.iss ≡ new.iss → w.sent ≡ new.sent → w.nxt ≡ old.nxt → Carries old new (first_unacked_in s cfg w)
-fair-first_in st.SynSent cfg old w new is alive least order iss sent nxt = inl refl
-fair-first_in st.SynReceived cfg old w new is alive least order iss sent nxt = inl refl
-fair-first_in st.Listen cfg old w new is alive least order iss sent nxt = cc
-fair-first_in st.Closed cfg old w new is alive least order iss sent nxt = cc
-fair-first_in _ cfg old w new is alive least order iss sent nxt =
-    fair-first_of cfg old w new (unacked w) refl (least (ap carries is)) order iss sent nxt
+fair-first_in : (s : State) (cfg : Cfg) (old w new : Connection) → w.state ≡ s → is_alive s ≡ true → (carries w.state ≡ true → 1 ≤ w.una) → w.una ≤ w.nxt → w.iss ≡ new.iss → w.sent ≡ new.sent → w.una ≡ old.una → w.nxt ≡ old.nxt → w.nxt ≡ new.nxt → Carries old new (first_unacked_in s cfg w)
+fair-first_in st.SynSent cfg old w new is alive least order iss sent una nxt still = inl refl
+fair-first_in st.SynReceived cfg old w new is alive least order iss sent una nxt still = inl refl
+fair-first_in st.Listen cfg old w new is alive least order iss sent una nxt still = cc
+fair-first_in st.Closed cfg old w new is alive least order iss sent una nxt still = cc
+fair-first_in _ cfg old w new is alive least order iss sent una nxt still =
+    fair-first_of cfg old w new (unacked w) refl (least (ap carries is)) order iss sent una nxt still
 
 acks-first_of : (cfg : Cfg) (w new : Connection) (bytes : List ℕ) → rcv_nxt w ≡ rcv_nxt new → Acknowledges new (first_of cfg w bytes)
 acks-first_of cfg w new [] same = λ _ _. same
@@ -84,25 +87,27 @@ same-acks v w os same = All-weaker (Acknowledges v) (Acknowledges w) each os
     each (outputs.Told t) a = tt
     each (outputs.Ret r) a = tt
 
-same-carries : (old v w : Connection) (o : Output) → v.iss ≡ w.iss → v.sent ≡ w.sent → Carries old v o → Carries old w o
-same-carries old v w (outputs.Frame seg) iss sent (inl e) = inl e
-same-carries old v w (outputs.Frame seg) iss sent (inr c) =
+same-carries : (old v w : Connection) (o : Output) → v.iss ≡ w.iss → v.sent ≡ w.sent → v.nxt ≤ w.nxt → Carries old v o → Carries old w o
+same-carries old v w (outputs.Frame seg) iss sent more (inl e) = inl e
+same-carries old v w (outputs.Frame seg) iss sent more (inr c) =
     inr (record {
       at = c.at;
       first = c.first;
+      from = c.from;
+      to = omega (arith, c.to, more);
       seq = c.seq ∙ ap (λ n. number n c.at) iss;
       rest = c.rest;
       body = ap (λ (s : List ℕ). drop (c.at - 1) s) (sym sent) ∙ c.body;
       window = c.window;
     })
-same-carries old v w (outputs.Told t) iss sent c = tt
-same-carries old v w (outputs.Ret r) iss sent c = tt
+same-carries old v w (outputs.Told t) iss sent more c = tt
+same-carries old v w (outputs.Ret r) iss sent more c = tt
 
-pub fair-same : (old v w : Connection) (os : List Output) → v.iss ≡ w.iss → v.irs ≡ w.irs → v.rcv ≡ w.rcv → v.sent ≡ w.sent → SendsFairly old v os → SendsFairly old w os
-fair-same old v w os iss irs rcv sent f =
+pub fair-same : (old v w : Connection) (os : List Output) → v.iss ≡ w.iss → v.irs ≡ w.irs → v.rcv ≡ w.rcv → v.sent ≡ w.sent → v.nxt ≤ w.nxt → SendsFairly old v os → SendsFairly old w os
+fair-same old v w os iss irs rcv sent more f =
     record {
       acks = same-acks v w os (ap (λ n. number n v.rcv) irs ∙ ap (λ n. number w.irs n) rcv) f.acks;
-      bodies = All-weaker (Carries old v) (Carries old w) (λ o. same-carries old v w o iss sent) os f.bodies;
+      bodies = All-weaker (Carries old v) (Carries old w) (λ o. same-carries old v w o iss sent more) os f.bodies;
     }
 
 -- what a part of a flush leaves: it is fair, and these parts are as they were
@@ -123,7 +128,7 @@ flushing-resent cfg w j is q alive k =
       record {
         fair = fair-more j.connection (record j.connection { resend = false }) j.outputs (first_unacked_in j.connection.state cfg j.connection)
             (acks-first_in j.connection.state cfg j.connection (record j.connection { resend = false }) refl)
-            (fair-first_in j.connection.state cfg j.connection j.connection (record j.connection { resend = false }) refl (ap (λ (v : Connection). is_alive v.state) is ∙ alive) (subst (λ (v : Connection). carries v.state ≡ true → 1 ≤ v.una) (sym is) k.sound.sender.stream) (subst (λ (v : Connection). v.una ≤ v.nxt) (sym is) k.sound.sender.order) refl refl refl)
+            (fair-first_in j.connection.state cfg j.connection j.connection (record j.connection { resend = false }) refl (ap (λ (v : Connection). is_alive v.state) is ∙ alive) (subst (λ (v : Connection). carries v.state ≡ true → 1 ≤ v.una) (sym is) k.sound.sender.stream) (subst (λ (v : Connection). v.una ≤ v.nxt) (sym is) k.sound.sender.order) refl refl refl refl refl)
             (fair-quiet j.connection (record j.connection { resend = false }) j.outputs q);
         state = refl;
         iss = refl;
@@ -136,12 +141,12 @@ flushing-resent cfg w j is q alive k =
     (λ _. (record { fair = fair-quiet j.connection j.connection j.outputs q; state = refl; iss = refl; una = refl; wnd = refl; cwnd = refl }, refl)))
 
 -- bytes of the stream at this position, in segments
-fair-frames : (cfg : Cfg) (old w new : Connection) (most at : ℕ) (bytes rest : List ℕ) → 1 ≤ at → drop (at - 1) new.sent ≡ bytes ++ rest → old.nxt ≤ at → (0 < length bytes → at + length bytes ≤ old.una + min old.wnd old.cwnd) → w.iss ≡ new.iss → rcv_nxt w ≡ rcv_nxt new → SendsFairly old new (data_frames cfg w most at bytes)
-fair-frames cfg old w new zero at bytes rest first stands behind within iss same =
+fair-frames : (cfg : Cfg) (old w new : Connection) (most at : ℕ) (bytes rest : List ℕ) → 1 ≤ at → drop (at - 1) new.sent ≡ bytes ++ rest → old.una ≤ at → at + length bytes ≤ new.nxt → old.nxt ≤ at → (0 < length bytes → at + length bytes ≤ old.una + min old.wnd old.cwnd) → w.iss ≡ new.iss → rcv_nxt w ≡ rcv_nxt new → SendsFairly old new (data_frames cfg w most at bytes)
+fair-frames cfg old w new zero at bytes rest first stands from to behind within iss same =
     record { acks = All-nil (Acknowledges new); bodies = All-nil (Carries old new) }
-fair-frames cfg old w new (suc most) at [] rest first stands behind within iss same =
+fair-frames cfg old w new (suc most) at [] rest first stands from to behind within iss same =
     record { acks = All-nil (Acknowledges new); bodies = All-nil (Carries old new) }
-fair-frames cfg old w new (suc most) at (b ∷ bytes) rest first stands behind within iss same =
+fair-frames cfg old w new (suc most) at (b ∷ bytes) rest first stands from to behind within iss same =
     let whole : at + length (b ∷ bytes) ≤ old.una + min old.wnd old.cwnd = within (omega arith) in
     let cut : length (take w.mss (b ∷ bytes)) ≡ min w.mss (length (b ∷ bytes)) = length-take w.mss (b ∷ bytes) in
     let left : length (drop w.mss (b ∷ bytes)) ≡ length (b ∷ bytes) - w.mss = length-drop w.mss (b ∷ bytes) in
@@ -154,12 +159,14 @@ fair-frames cfg old w new (suc most) at (b ∷ bytes) rest first stands behind w
     ∙ ap (λ (t : List ℕ). drop (length (take w.mss (b ∷ bytes))) t) apart
     ∙ drop-append_seam (take w.mss (b ∷ bytes)) (drop w.mss (b ∷ bytes) ++ rest) in
     let others : SendsFairly old new (data_frames cfg w most (at + length (take w.mss (b ∷ bytes))) (drop w.mss (b ∷ bytes))) =
-    fair-frames cfg old w new most (at + length (take w.mss (b ∷ bytes))) (drop w.mss (b ∷ bytes)) rest (omega arith) later (omega arith) (λ _. omega (arith, cut, left, whole)) iss same in
+    fair-frames cfg old w new most (at + length (take w.mss (b ∷ bytes))) (drop w.mss (b ∷ bytes)) rest (omega arith) later (omega arith) (omega (arith, cut, left)) (omega arith) (λ _. omega (arith, cut, left, whole)) iss same in
     record {
       acks = All-cons (Acknowledges new) _ _ (λ _ _. same) others.acks;
       bodies = All-cons (Carries old new) _ _ (inr (record {
         at = at;
         first = first;
+        from = from;
+        to = omega (arith, cut);
         seq = ap (λ n. number n at) iss;
         rest = drop w.mss (b ∷ bytes) ++ rest;
         body = apart;
@@ -187,8 +194,8 @@ flushing-data_sent cfg old j nxt least order f =
     (λ s.
     let one : 1 ≤ j.connection.una = least (sends-carries j.connection.state s) in
     record {
-      fair = fair-append old _ j.outputs _ (fair-same old j.connection _ j.outputs refl refl refl refl f.fair)
-          (fair-frames cfg old j.connection _ (length (sendable j.connection)) j.connection.nxt (sendable j.connection) (drop (usable j.connection) (unsent j.connection)) (omega arith) (sym (take-append-drop (usable j.connection) (unsent j.connection))) (omega arith) (λ some. omega (arith, cut, bound, some)) refl refl);
+      fair = fair-append old _ j.outputs _ (fair-same old j.connection _ j.outputs refl refl refl refl (omega arith) f.fair)
+          (fair-frames cfg old j.connection _ (length (sendable j.connection)) j.connection.nxt (sendable j.connection) (drop (usable j.connection) (unsent j.connection)) (omega arith) (sym (take-append-drop (usable j.connection) (unsent j.connection))) (omega (arith, una, order)) (omega arith) (omega arith) (λ some. omega (arith, cut, bound, some)) refl refl);
       state = f.state;
       iss = f.iss;
       una = f.una;
@@ -202,7 +209,7 @@ unfolding fin_sent
 flushing-fin_sent cfg old j f =
     cond_both (sends j.connection.state && j.connection.fin_wanted && not j.connection.fin_sent && (length (unsent j.connection) == 0)) _ _ (IsFlushing old)
     (λ _. record {
-      fair = fair-more old _ j.outputs (fin_frame cfg j.connection j.connection.nxt) (λ _ _. refl) (inl refl) (fair-same old j.connection _ j.outputs refl refl refl refl f.fair);
+      fair = fair-more old _ j.outputs (fin_frame cfg j.connection j.connection.nxt) (λ _ _. refl) (inl refl) (fair-same old j.connection _ j.outputs refl refl refl refl (omega arith) f.fair);
       state = f.state;
       iss = f.iss;
       una = f.una;
@@ -215,14 +222,14 @@ fair-ack_sent : (cfg : Cfg) (old : Connection) (j : Job) → SendsFairly old j.c
 unfolding ack_sent
 fair-ack_sent cfg old j f =
     cond_both (j.connection.ack_owed && (length j.outputs == 0)) _ _ (λ (r : Job). SendsFairly old r.connection r.outputs)
-    (λ _. fair-ack cfg old j.connection _ j.outputs refl (fair-same old j.connection _ j.outputs refl refl refl refl f))
-    (λ _. fair-same old j.connection _ j.outputs refl refl refl refl f)
+    (λ _. fair-ack cfg old j.connection _ j.outputs refl (fair-same old j.connection _ j.outputs refl refl refl refl (omega arith) f))
+    (λ _. fair-same old j.connection _ j.outputs refl refl refl refl (omega arith) f)
 
 fair-armed : (cfg : Cfg) (now : ℕ) (old w : Connection) (os : List Output) → SendsFairly old w os → SendsFairly old (armed cfg now w) os
 unfolding armed
 fair-armed cfg now old w os f =
     cond_both (is_none w.deadline && (nat_lt w.una w.nxt || ((w.una == w.nxt) && waits_for_window w))) _ _ (λ (v : Connection). SendsFairly old v os)
-    (λ _. fair-same old w _ os refl refl refl refl f)
+    (λ _. fair-same old w _ os refl refl refl refl (omega arith) f)
     (λ _. f)
 
 fair-flushed : (cfg : Cfg) (now : ℕ) (w : Connection) (j : Job) → j.connection ≡ w → AreQuiet j.outputs → is_alive w.state ≡ true → IsKept cfg w → SendsFairly w (flushed cfg now j).connection (flushed cfg now j).outputs
@@ -264,7 +271,7 @@ fair-again cfg old w os same q alive k =
     let order : old.una ≤ old.nxt = k.sound.sender.order in
     fair-more old w os (first_unacked_in w.state cfg w)
     (acks-first_in w.state cfg w w refl)
-    (fair-first_in w.state cfg old w w refl (ap is_alive same.state ∙ alive) (λ e. let one : 1 ≤ old.una = k.sound.sender.stream (sym (ap carries same.state) ∙ e) in omega arith) (omega arith) refl refl nxt)
+    (fair-first_in w.state cfg old w w refl (ap is_alive same.state ∙ alive) (λ e. let one : 1 ≤ old.una = k.sound.sender.stream (sym (ap carries same.state) ∙ e) in omega arith) (omega arith) refl refl una nxt refl)
     (fair-quiet old w os q)
 
 fair-retransmitted : (cfg : Cfg) (now : ℕ) (j : Job) → AreQuiet j.outputs → is_alive j.connection.state ≡ true → IsKept cfg j.connection → SendsFairly j.connection (retransmitted cfg now j).connection (retransmitted cfg now j).outputs

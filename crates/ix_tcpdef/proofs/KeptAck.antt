@@ -3,7 +3,8 @@ use Rattle.std.proofs.Common.{◌≡◌, ℕ, ◌+◌, ◌-◌, ◌*◌, ◌/◌
 use Rattle.std.specs.Prelude.{nat_lt, ◌&&◌, ◌||◌, ◌==◌, not, Some, None, Option, min, max}
 use Rattle.std.proofs.lemmas.Bool.{cond_both}
 use Rattle.ix_base.specs.declared.segment.SegHead.{SegHead}
-use Rattle.ix_tcpdef.specs.Numbers.{ahead, is_past, is_at_or_past, later}
+use Rattle.ix_base.specs.Sequence.{ahead, is_past, is_at_or_past}
+use Rattle.ix_tcpdef.specs.Ticks.{later}
 use Rattle.ix_tcpdef.specs.Connection.{snd_una, snd_nxt, acked_data, room, grown, loss_threshold, is_syn_sent, is_syn_received, is_time_wait, gives, on}
 use Rattle.ix_tcpdef.specs.Frames.{ack_frame, reset_frame}
 use Rattle.ix_tcpdef.specs.Arrival.{Goes, Stops, ◌>>=◌}
@@ -12,6 +13,7 @@ use Rattle.ix_tcpdef.specs.Needs.{carries}
 use Rattle.ix_tcpdef.specs.Sound.{IsKept, has_windows, may_send, is_unknown, bit}
 use Rattle.ix_tcpdef.proofs.NumberLemmas.{advance_least, advance_most}
 use Rattle.ix_tcpdef.proofs.KeptArrival.{LeavesKept, kept-ended, kept-tells}
+use Rattle.ix_tcpdef.specs.Delivered.{expects}
 use Rattle.ix_tcpdef.specs.declared.types.Cfg.{Cfg}
 use Rattle.ix_tcpdef.specs.declared.types.State.{State}
 use Rattle.ix_tcpdef.specs.declared.types.State.TheVariants as st
@@ -21,7 +23,7 @@ use Rattle.ix_tcpdef.specs.declared.types.Output.TheVariants as outputs
 use Rattle.ix_tcpdef.specs.declared.types.Told.TheVariants as told
 
 -- what is in flight, in the form that numbers want
-in_flight : (una nxt : ℕ) (b : Bool) → nxt ≤ una + 65535 + bit b → nxt ≤ una + 65536
+pub in_flight : (una nxt : ℕ) (b : Bool) → nxt ≤ una + 65535 + bit b → nxt ≤ una + 65536
 in_flight una nxt true h = omega arith
 in_flight una nxt false h = omega arith
 
@@ -240,7 +242,7 @@ kept-fin_acked cfg now j k =
     (λ _. record { kept = k })
 
 -- an acknowledgement changes neither where the connection stands nor what was sent
-duplicated-numbers : (h : SegHead) (w : Connection) → snd_nxt (duplicated h w) ≡ snd_nxt w
+pub duplicated-numbers : (h : SegHead) (w : Connection) → snd_nxt (duplicated h w) ≡ snd_nxt w
 unfolding duplicated
 duplicated-numbers h w = by_tests (is_duplicate h w) w.recovering (w.dups == 2)
   where
@@ -265,19 +267,12 @@ kept-synchronized cfg h now j window known k = by_test (is_past (snd_nxt j.conne
         kept-fin_acked cfg now _ (kept-told_sent cfg _ (on j (acked cfg h now j.connection)) (kept-acked cfg h now j.connection window known p k))
 
 -- ## The whole check
--- the states in which a segment is checked
-abbrev pub is_checked : State → Bool
-is_checked st.Listen = false
-is_checked st.SynSent = false
-is_checked st.Closed = false
-is_checked _ = true
-
-kept-acknowledgement_in : (s : State) (cfg : Cfg) (h : SegHead) (now : ℕ) (j : Job) → h.window < 2 ^ 16 → j.connection.state ≡ s → is_checked s ≡ true → IsKept cfg j.connection → LeavesKept cfg (if is_syn_received s then establishing h j else synchronized cfg h now j)
+kept-acknowledgement_in : (s : State) (cfg : Cfg) (h : SegHead) (now : ℕ) (j : Job) → h.window < 2 ^ 16 → j.connection.state ≡ s → expects s ≡ true → IsKept cfg j.connection → LeavesKept cfg (if is_syn_received s then establishing h j else synchronized cfg h now j)
 kept-acknowledgement_in st.SynReceived cfg h now j window is c k = kept-establishing cfg h j window is k
 kept-acknowledgement_in st.Listen cfg h now j window is c k = cc
 kept-acknowledgement_in st.SynSent cfg h now j window is c k = cc
 kept-acknowledgement_in _ cfg h now j window is c k = kept-synchronized cfg h now j window (ap is_unknown is) k
 
-pub kept-acknowledgement : (cfg : Cfg) (h : SegHead) (now : ℕ) (j : Job) → h.window < 2 ^ 16 → is_checked j.connection.state ≡ true → IsKept cfg j.connection → LeavesKept cfg (acknowledgement cfg h now j)
+pub kept-acknowledgement : (cfg : Cfg) (h : SegHead) (now : ℕ) (j : Job) → h.window < 2 ^ 16 → expects j.connection.state ≡ true → IsKept cfg j.connection → LeavesKept cfg (acknowledgement cfg h now j)
 unfolding acknowledgement
 kept-acknowledgement cfg h now j window c k = kept-acknowledgement_in j.connection.state cfg h now j window refl c k

@@ -8,7 +8,9 @@ use Rattle.std.proofs.lemmas.List.Elements.{All-append, All-cons, All-nil}
 use Rattle.ix_base.specs.declared.segment.SegHead.{SegHead}
 use Rattle.ix_base.specs.declared.segment.Seg.{Seg}
 use Rattle.ix_base.specs.declared.id.WireNo.{WireNo}
-use Rattle.ix_tcpdef.specs.Numbers.{is_past, past_of, behind_of, has_flag, later}
+use Rattle.ix_base.specs.Sequence.{is_past, past_of, behind_of}
+use Rattle.ix_base.specs.Flags.{has_flag}
+use Rattle.ix_tcpdef.specs.Ticks.{later}
 use Rattle.ix_tcpdef.specs.Connection.{rcv_nxt, rcv_wnd, seq_of, on}
 use Rattle.ix_tcpdef.specs.Body.{octets, delivered, rest_of, holding, filled, is_apart, held_among, waiting, received, takes_body, ends_next, body, past_fin, fin_taken_in, fin_taken, finished, text_and_fin}
 use Rattle.ix_tcpdef.specs.Needs.{EndsBy, LiesInFrames, AreParts, carries, IsFramed}
@@ -25,7 +27,7 @@ use Rattle.ix_tcpdef.specs.declared.types.Piece.{Piece}
 use Rattle.ix_tcpdef.specs.declared.types.Octets.{Octets}
 use Rattle.ix_tcpdef.specs.declared.types.Job.{Job}
 use Rattle.ix_tcpdef.specs.declared.types.Told.TheVariants as told
-use Rattle.ix_tcpdef.specs.declared.types.TheConstants.{FIN}
+use Rattle.ix_base.specs.declared.segment.TheConstants.{FIN}
 
 -- ## Delivery
 -- What holds while held segments are taken: what is left of them ends by top, and so does what is expected.
@@ -160,11 +162,11 @@ length-among new (s ∷ rest) =
     cond_both (nat_lt new.at s.at) _ _ (λ l. length l ≡ length (s ∷ rest) + 1) (λ _. omega arith) (λ _. omega (arith, length-among new rest))
 
 -- where these octets stand
-record LiesBehind (cfg : Cfg) (o : Octets) (w : Connection) : Type 0 where
-  behind : w.rcv ≤ o.at
-  some : 0 < length o.bytes
-  within : o.at + length o.bytes ≤ w.rcv + (cfg.window - w.unread)
-  place : o.from + length o.bytes < 2 ^ 16
+pub record LiesBehind (cfg : Cfg) (o : Octets) (w : Connection) : Type 0 where
+  pub behind : w.rcv ≤ o.at
+  pub some : 0 < length o.bytes
+  pub within : o.at + length o.bytes ≤ w.rcv + (cfg.window - w.unread)
+  pub place : o.from + length o.bytes < 2 ^ 16
 
 kept-waiting : (cfg : Cfg) (o : Octets) (n : WireNo) (fin : Bool) (w : Connection) → LiesBehind cfg o w → w.rcv < o.at → is_unknown w.state ≡ false → IsKept cfg w → IsKept cfg (waiting o n fin w)
 unfolding waiting
@@ -224,7 +226,7 @@ kept-received cfg o w fin j l known k =
     (λ next. kept-filled cfg _ _ j.connection.held fin (delivered o w j) (filling-delivered cfg _ _ j.connection.held o w j (grind (arith, common_steps, next)) (omega arith) (filling-kept cfg j.connection known k)))
     (λ later. kept-waiting cfg o w fin j.connection l (grind (arith, common_steps, later)) known k)
 
-octets-lie : (cfg : Cfg) (seg : Seg) (w : Connection) → IsFramed seg → w.unread ≤ cfg.window → (length (octets w.rcv (rcv_wnd cfg w) (seq_of w seg.head) seg.head.at seg.body).bytes == 0) ≡ false → LiesBehind cfg (octets w.rcv (rcv_wnd cfg w) (seq_of w seg.head) seg.head.at seg.body) w
+pub octets-lie : (cfg : Cfg) (seg : Seg) (w : Connection) → IsFramed seg → w.unread ≤ cfg.window → (length (octets w.rcv (rcv_wnd cfg w) (seq_of w seg.head) seg.head.at seg.body).bytes == 0) ≡ false → LiesBehind cfg (octets w.rcv (rcv_wnd cfg w) (seq_of w seg.head) seg.head.at seg.body) w
 unfolding octets
 octets-lie cfg seg w framed fits some = by_place (past_of (seq_of w seg.head)) (behind_of (seq_of w seg.head)) some
   where

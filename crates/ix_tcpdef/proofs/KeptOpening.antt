@@ -3,7 +3,8 @@ use Rattle.std.proofs.Common.{◌≡◌, ℕ, ◌^◌, ◌<◌, ◌≤◌, true,
 use Rattle.std.specs.Prelude.{nat_lt, ◌&&◌, ◌==◌, not, Some, None, Option}
 use Rattle.std.proofs.lemmas.Bool.{cond_both}
 use Rattle.ix_base.specs.declared.segment.SegHead.{SegHead}
-use Rattle.ix_tcpdef.specs.Numbers.{number, has_flag}
+use Rattle.ix_base.specs.Sequence.{number}
+use Rattle.ix_base.specs.Flags.{has_flag}
 use Rattle.ix_tcpdef.specs.Connection.{is_syn_sent, initial_window}
 use Rattle.ix_tcpdef.specs.Opening.{send_mss, opens, passive, opening, connecting, connected, syn_sent}
 use Rattle.ix_tcpdef.specs.Sound.{IsInRange, IsSound, IsKept, HoldsInOrder, FitsBuffer, may_send, is_unknown}
@@ -13,7 +14,7 @@ use Rattle.ix_tcpdef.specs.declared.types.State.TheVariants as st
 use Rattle.ix_tcpdef.specs.declared.types.Connection.{Connection}
 use Rattle.ix_tcpdef.specs.declared.types.HeldSegment.{HeldSegment}
 use Rattle.ix_tcpdef.specs.declared.types.Job.{Job}
-use Rattle.ix_tcpdef.specs.declared.types.TheConstants.{ACK, RST, SYN}
+use Rattle.ix_base.specs.declared.segment.TheConstants.{ACK, RST, SYN}
 
 send_mss_least : (cfg : Cfg) (o : Option ℕ) → 64 ≤ send_mss cfg o
 send_mss_least cfg (Some mss) = omega arith

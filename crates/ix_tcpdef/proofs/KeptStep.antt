@@ -7,11 +7,12 @@ use Rattle.ix_tcpdef.specs.Step.{checked, arrived_in, arrived, is_alive, stepped
 use Rattle.ix_tcpdef.specs.Arrival.{acceptability, reset, synchronize, unacknowledged}
 use Rattle.ix_tcpdef.specs.Acknowledgement.{acknowledgement}
 use Rattle.ix_tcpdef.specs.Needs.{IsFramed}
+use Rattle.ix_tcpdef.specs.Delivered.{expects}
 use Rattle.ix_tcpdef.specs.Sound.{IsInRange, IsKept, IsWritten, HasWindow}
 use Rattle.std.specs.Prelude.{true, ◌<◌, ◌^◌}
 use Rattle.ix_tcpdef.proofs.KeptArrival.{LeavesKept, kept-then, passes-then, passes-acceptability, passes-reset, passes-synchronize, passes-unacknowledged}
 use Rattle.ix_tcpdef.proofs.KeptOpening.{kept-opening, kept-syn_sent}
-use Rattle.ix_tcpdef.proofs.KeptAck.{is_checked, kept-acknowledgement}
+use Rattle.ix_tcpdef.proofs.KeptAck.{kept-acknowledgement}
 use Rattle.ix_tcpdef.proofs.KeptBody.{kept-text_and_fin}
 use Rattle.ix_tcpdef.proofs.KeptFlush.{kept-flushed, kept-expired}
 use Rattle.ix_tcpdef.proofs.KeptCalls.{kept-called}
@@ -23,7 +24,7 @@ use Rattle.ix_tcpdef.specs.declared.types.Input.{Input}
 use Rattle.ix_tcpdef.specs.declared.types.Input.TheVariants as inputs
 use Rattle.ix_tcpdef.specs.declared.types.Job.{Job}
 
-kept-checked : (cfg : Cfg) (w : WireNo) (seg : Seg) (now : ℕ) (j : Job) → IsFramed seg → seg.head.window < 2 ^ 16 → is_checked j.connection.state ≡ true → IsKept cfg j.connection → LeavesKept cfg (checked cfg w seg now j)
+kept-checked : (cfg : Cfg) (w : WireNo) (seg : Seg) (now : ℕ) (j : Job) → IsFramed seg → seg.head.window < 2 ^ 16 → expects j.connection.state ≡ true → IsKept cfg j.connection → LeavesKept cfg (checked cfg w seg now j)
 unfolding checked
 kept-checked cfg w seg now j framed window c k =
     passes-then cfg j (acceptability cfg seg.head now j) _ (passes-acceptability cfg seg.head now j k)
@@ -38,7 +39,7 @@ kept-arrived_in : (s : State) (cfg : Cfg) (w : WireNo) (seg : Seg) (now : ℕ) (
 kept-arrived_in st.Closed cfg w seg now j is range framed window k = k
 kept-arrived_in st.Listen cfg w seg now j is range framed window k = kept-opening cfg seg.head now j range window is k
 kept-arrived_in st.SynSent cfg w seg now j is range framed window k = kept-syn_sent cfg seg.head j range window is k
-kept-arrived_in _ cfg w seg now j is range framed window k = (kept-checked cfg w seg now j framed window (ap is_checked is) k).kept
+kept-arrived_in _ cfg w seg now j is range framed window k = (kept-checked cfg w seg now j framed window (ap expects is) k).kept
 
 kept-stepped : (cfg : Cfg) (i : Input) (now : ℕ) (j : Job) → IsInRange cfg → IsWritten i → HasWindow i → IsKept cfg j.connection → IsKept cfg (stepped cfg i now j).connection
 unfolding stepped arrived

@@ -14,3 +14,6 @@ pub mod FairStep
 pub mod DeliverBody
 pub mod DeliverStep
 pub mod OpeningLemmas
+pub mod OnwardLemmas
+pub mod LivedLemmas
+pub mod StandingLemmas

@@ -1,7 +1,7 @@
 -- Numbers against positions.
 use Rattle.std.proofs.Common.{◌≡◌, ℕ, ◌+◌, ◌≤◌, true, false, arith}
 use Rattle.std.proofs.lemmas.Int.{ints}
-use Rattle.ix_tcpdef.specs.Numbers.{number, ahead, is_past, is_at_or_past}
+use Rattle.ix_base.specs.Sequence.{number, ahead, is_past, is_at_or_past}
 use Rattle.ix_tcpdef.specs.Positions.{CountsAhead, TestsPast, TestsAtOrPast, TellsApart, GoesOn, FindsPosition}
 
 -- a number past SND.UNA and not past SND.NXT stands for a position in between

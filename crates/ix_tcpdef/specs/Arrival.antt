@@ -1,13 +1,15 @@
 -- Arrival of a segment in the other states, up to its acknowledgement: RFC 9293, section 3.10.7.4.
 use Rattle.std.specs.Prelude.{ℕ, ◌+◌, ◌-◌, Bool, true, false, nat_lt, ◌&&◌, ◌||◌, ◌==◌, not, if◌then◌else◌, Some, ℤ, pos, ◌+ℤ◌}
 use Rattle.ix_base.specs.declared.segment.SegHead.{SegHead}
-use Rattle.ix_tcpdef.specs.Numbers.{has_flag, is_next, lies_in, later}
+use Rattle.ix_base.specs.Sequence.{is_next, lies_in}
+use Rattle.ix_base.specs.Flags.{has_flag}
+use Rattle.ix_tcpdef.specs.Ticks.{later}
 use Rattle.ix_tcpdef.specs.Connection.{seq_of, rcv_wnd, rcv_nxt, is_syn_received, is_time_wait, on, gives, tells, ended}
 use Rattle.ix_tcpdef.specs.Frames.{ack_frame}
 use Rattle.ix_tcpdef.specs.declared.types.Cfg.{Cfg}
 use Rattle.ix_tcpdef.specs.declared.types.Job.{Job}
 use Rattle.ix_tcpdef.specs.declared.types.Told.TheVariants as told
-use Rattle.ix_tcpdef.specs.declared.types.TheConstants.{ACK, FIN, RST, SYN}
+use Rattle.ix_base.specs.declared.segment.TheConstants.{ACK, FIN, RST, SYN}
 
 -- what a part of the arrival leaves: the segment goes on to the next part, or it is done with
 pub data Next : Type 0 where

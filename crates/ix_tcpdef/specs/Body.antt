@@ -4,7 +4,9 @@ use Rattle.std.specs.List.{list_all}
 use Rattle.ix_base.specs.declared.segment.SegHead.{SegHead}
 use Rattle.ix_base.specs.declared.segment.Seg.{Seg}
 use Rattle.ix_base.specs.declared.id.WireNo.{WireNo}
-use Rattle.ix_tcpdef.specs.Numbers.{is_past, past_of, behind_of, is_next, has_flag, later}
+use Rattle.ix_base.specs.Sequence.{is_past, past_of, behind_of, is_next}
+use Rattle.ix_base.specs.Flags.{has_flag}
+use Rattle.ix_tcpdef.specs.Ticks.{later}
 use Rattle.ix_tcpdef.specs.Connection.{rcv_nxt, rcv_wnd, seq_of, on, gives, tells}
 use Rattle.ix_tcpdef.specs.Frames.{ack_frame}
 use Rattle.ix_tcpdef.specs.declared.types.Cfg.{Cfg}
@@ -16,7 +18,7 @@ use Rattle.ix_tcpdef.specs.declared.types.Job.{Job}
 use Rattle.ix_tcpdef.specs.declared.types.Octets.{Octets}
 use Rattle.ix_tcpdef.specs.declared.types.Output.TheVariants as outputs
 use Rattle.ix_tcpdef.specs.declared.types.Told.TheVariants as told
-use Rattle.ix_tcpdef.specs.declared.types.TheConstants.{FIN}
+use Rattle.ix_base.specs.declared.segment.TheConstants.{FIN}
 
 -- ## Seventh: process the segment text
 -- the octets of a body that lie in the window, where its first stands at this distance from RCV.NXT

@@ -1,7 +1,7 @@
 -- Words of one connection (RFC 9293, section 3.3.1).
 use Rattle.std.specs.Prelude.{ℕ, ◌+◌, ◌-◌, ◌*◌, ◌/◌, Bool, true, false, nat_lt, ◌&&◌, not, if◌then◌else◌, [], ◌∷◌, ◌++◌, length, min, max, None, ℤ}
 use Rattle.ix_base.specs.declared.segment.SegHead.{SegHead}
-use Rattle.ix_tcpdef.specs.Numbers.{number, offset}
+use Rattle.ix_base.specs.Sequence.{number, offset}
 use Rattle.ix_tcpdef.specs.declared.types.Cfg.{Cfg}
 use Rattle.ix_tcpdef.specs.declared.types.State.{State}
 use Rattle.ix_tcpdef.specs.declared.types.State.TheVariants as st
@@ -26,9 +26,13 @@ abbrev pub seq_of : Connection → SegHead → ℤ
 seq_of w h = offset (rcv_nxt w) h.seq
 
 -- ## Windows
+-- the window that is offered where so many bytes are unread
+abbrev pub offered_window : Cfg → ℕ → ℕ
+offered_window cfg unread = cfg.window - unread
+
 -- RCV.WND
 abbrev pub rcv_wnd : Cfg → Connection → ℕ
-rcv_wnd cfg w = cfg.window - w.unread
+rcv_wnd cfg w = offered_window cfg w.unread
 
 -- how many bytes are acknowledged; byte i stands at position i + 1
 abbrev pub acked_data : Connection → ℕ
@@ -54,9 +58,12 @@ initial_window smss = if nat_lt 2190 smss then 2 * smss else if nat_lt 1095 smss
 abbrev pub grown : ℕ → ℕ → ℕ
 grown cwnd by = min (cwnd + by) 131072
 
--- the threshold after a loss (RFC 5681, section 3.1, equation 4)
+-- the threshold after a loss, where so many octets are in flight (RFC 5681, section 3.1, equation 4)
+abbrev pub threshold_after_loss : ℕ → ℕ → ℕ
+threshold_after_loss flight mss = max (flight / 2) (2 * mss)
+
 abbrev pub loss_threshold : Connection → ℕ
-loss_threshold w = max (flight_size w / 2) (2 * w.mss)
+loss_threshold w = threshold_after_loss (flight_size w) w.mss
 
 -- ## States
 abbrev pub is_listen : State → Bool

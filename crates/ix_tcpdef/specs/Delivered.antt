@@ -4,7 +4,8 @@ use Rattle.ix_base.specs.declared.id.WireNo.{WireNo}
 use Rattle.ix_base.specs.declared.id.Flow.{Flow}
 use Rattle.ix_base.specs.declared.segment.Seg.{Seg}
 use Rattle.ix_base.specs.Prefix.{IsPrefix}
-use Rattle.ix_tcpdef.specs.Numbers.{number, has_flag}
+use Rattle.ix_base.specs.Sequence.{number}
+use Rattle.ix_base.specs.Flags.{has_flag}
 use Rattle.ix_tcpdef.specs.Connection.{rcv_wnd, seq_of}
 use Rattle.ix_tcpdef.specs.Body.{octets}
 use Rattle.ix_tcpdef.specs.Calls.{recv_of}
@@ -23,7 +24,7 @@ use Rattle.ix_tcpdef.specs.declared.types.Output.{Output}
 use Rattle.ix_tcpdef.specs.declared.types.Output.TheVariants as outputs
 use Rattle.ix_tcpdef.specs.declared.types.Told.{Told}
 use Rattle.ix_tcpdef.specs.declared.types.Told.TheVariants as told
-use Rattle.ix_tcpdef.specs.declared.types.TheConstants.{SYN}
+use Rattle.ix_base.specs.declared.segment.TheConstants.{SYN}
 
 -- ## The events that name bytes, in order
 abbrev pub recv_in : Told → List Output

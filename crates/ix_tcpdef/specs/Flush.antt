@@ -1,6 +1,7 @@
 -- What a connection sends on its own: the end of a cycle, and its timer (RFC 9293, sections 3.8.6 and 3.10.8; RFC 5681, section 3.1).
 use Rattle.std.specs.Prelude.{ℕ, zero, suc, ◌+◌, ◌-◌, ◌*◌, ◌^◌, Bool, true, false, nat_lt, nat_le, ◌&&◌, ◌||◌, ◌==◌, not, if◌then◌else◌, List, [], ◌∷◌, ◌++◌, length, take, drop, min, Option, Some, None, is_none}
-use Rattle.ix_tcpdef.specs.Numbers.{number, later}
+use Rattle.ix_base.specs.Sequence.{number}
+use Rattle.ix_tcpdef.specs.Ticks.{later}
 use Rattle.ix_tcpdef.specs.Connection.{loss_threshold, is_time_wait, is_syn_sent, on, gives, tells, ended}
 use Rattle.ix_tcpdef.specs.Frames.{plain_frame, ack_frame, syn_frame, syn_ack_frame, data_frame, fin_frame}
 use Rattle.ix_tcpdef.specs.declared.types.Cfg.{Cfg}
@@ -11,7 +12,7 @@ use Rattle.ix_tcpdef.specs.declared.types.Job.{Job}
 use Rattle.ix_tcpdef.specs.declared.types.Output.{Output}
 use Rattle.ix_tcpdef.specs.declared.types.Output.TheVariants as outputs
 use Rattle.ix_tcpdef.specs.declared.types.Told.TheVariants as told
-use Rattle.ix_tcpdef.specs.declared.types.TheConstants.{ACK}
+use Rattle.ix_base.specs.declared.segment.TheConstants.{ACK}
 
 -- the bytes that were sent and are not acknowledged, and those that were never sent
 abbrev pub unacked : Connection → List ℕ

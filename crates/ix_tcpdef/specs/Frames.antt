@@ -1,13 +1,14 @@
 -- The segments that a connection sends.
 use Rattle.std.specs.Prelude.{ℕ, ◌+◌, ◌==◌, if◌then◌else◌, List, [], length, Some, None}
 use Rattle.ix_base.specs.declared.segment.SegHead.{SegHead}
-use Rattle.ix_tcpdef.specs.Numbers.{number}
+use Rattle.ix_base.specs.Sequence.{number}
 use Rattle.ix_tcpdef.specs.Connection.{snd_nxt, rcv_nxt, rcv_wnd}
 use Rattle.ix_tcpdef.specs.declared.types.Cfg.{Cfg}
 use Rattle.ix_tcpdef.specs.declared.types.Connection.{Connection}
 use Rattle.ix_tcpdef.specs.declared.types.Output.{Output}
 use Rattle.ix_tcpdef.specs.declared.types.Output.TheVariants as outputs
-use Rattle.ix_tcpdef.specs.declared.types.TheConstants.{ACK, FIN, PSH, RST, SYN, BEHIND_HEADER, BEHIND_SYN}
+use Rattle.ix_base.specs.declared.segment.TheConstants.{ACK, FIN, PSH, RST, SYN}
+use Rattle.ix_tcpdef.specs.declared.types.TheConstants.{BEHIND_HEADER, BEHIND_SYN}
 
 -- a segment with ACK that stands at this sequence number
 abbrev pub plain_frame : Cfg → Connection → ℕ → ℕ → List ℕ → Output

@@ -2,7 +2,8 @@
 use Rattle.std.specs.Prelude.{◌≡◌, ℕ, ◌+◌, ◌-◌, ◌≤◌, true, false, ◌⊎◌, List, [], ◌∷◌, ◌++◌, length, drop, min}
 use Rattle.std.specs.List.{All}
 use Rattle.ix_base.specs.declared.segment.Seg.{Seg}
-use Rattle.ix_tcpdef.specs.Numbers.{number, has_flag}
+use Rattle.ix_base.specs.Sequence.{number}
+use Rattle.ix_base.specs.Flags.{has_flag}
 use Rattle.ix_tcpdef.specs.Connection.{rcv_nxt}
 use Rattle.ix_tcpdef.specs.Sound.{IsInRange, IsKept, IsWritten, HasWindow}
 use Rattle.ix_tcpdef.specs.Step.{Moment, step, last}
@@ -10,7 +11,7 @@ use Rattle.ix_tcpdef.specs.declared.types.Cfg.{Cfg}
 use Rattle.ix_tcpdef.specs.declared.types.Connection.{Connection}
 use Rattle.ix_tcpdef.specs.declared.types.Output.{Output}
 use Rattle.ix_tcpdef.specs.declared.types.Output.TheVariants as outputs
-use Rattle.ix_tcpdef.specs.declared.types.TheConstants.{ACK, RST}
+use Rattle.ix_base.specs.declared.segment.TheConstants.{ACK, RST}
 
 -- A frame with ACK, other than a RST, acknowledges RCV.NXT.
 abbrev pub Acknowledges : Connection → Output → Type 0
@@ -23,6 +24,9 @@ pub record CarriesStream (old new : Connection) (seg : Seg) : Type 0 where
   -- the position that the sequence number stands for
   pub at : ℕ
   pub first : 1 ≤ at
+  -- so a body has one place: it stands between SND.UNA before the step and SND.NXT after it
+  pub from : old.una ≤ at
+  pub to : at + length seg.body ≤ new.nxt
   pub seq : seg.head.seq ≡ number new.iss at
   -- from there on the stream begins with the body
   pub rest : List ℕ

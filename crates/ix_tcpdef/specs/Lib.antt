@@ -1,4 +1,4 @@
-pub mod Numbers
+pub mod Ticks
 pub mod Connection
 pub mod Frames
 pub mod Opening
@@ -15,3 +15,7 @@ pub mod Laws
 pub mod Delivered
 pub mod Stands
 pub mod Positions
+pub mod Onward
+pub mod Lived
+pub mod Arrivals
+pub mod Standing

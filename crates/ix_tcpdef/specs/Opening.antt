@@ -1,7 +1,9 @@
 -- How a connection opens: RFC 9293, sections 3.10.1 (OPEN), 3.10.7.2 (LISTEN) and 3.10.7.3 (SYN-SENT).
 use Rattle.std.specs.Prelude.{ℕ, Bool, true, nat_lt, ◌&&◌, ◌==◌, not, if◌then◌else◌, min, max, Option, Some, None}
 use Rattle.ix_base.specs.declared.segment.SegHead.{SegHead}
-use Rattle.ix_tcpdef.specs.Numbers.{number, has_flag, later}
+use Rattle.ix_base.specs.Sequence.{number}
+use Rattle.ix_base.specs.Flags.{has_flag}
+use Rattle.ix_tcpdef.specs.Ticks.{later}
 use Rattle.ix_tcpdef.specs.Connection.{initial_window, on, gives, ended}
 use Rattle.ix_tcpdef.specs.Frames.{reset_frame, syn_frame, syn_ack_frame}
 use Rattle.ix_tcpdef.specs.declared.types.Cfg.{Cfg}
@@ -10,7 +12,7 @@ use Rattle.ix_tcpdef.specs.declared.types.Connection.{Connection}
 use Rattle.ix_tcpdef.specs.declared.types.Job.{Job}
 use Rattle.ix_tcpdef.specs.declared.types.Output.TheVariants as outputs
 use Rattle.ix_tcpdef.specs.declared.types.Told.TheVariants as told
-use Rattle.ix_tcpdef.specs.declared.types.TheConstants.{ACK, RST, SYN}
+use Rattle.ix_base.specs.declared.segment.TheConstants.{ACK, RST, SYN}
 
 -- the largest body that is sent to a peer: its option, or 536 where it has none (RFC 9293, section 3.7.1), but no more than is configured
 abbrev pub send_mss : Cfg → Option ℕ → ℕ

@@ -6,8 +6,8 @@ use Rattle.ix_tcpdef.specs.Step.{listening, step}
 use Rattle.ix_tcpdef.specs.declared.types.Cfg.{Cfg}
 use Rattle.ix_tcpdef.specs.declared.types.Connection.{Connection}
 use Rattle.ix_tcpdef.specs.declared.types.Input.{Input}
-use Rattle.ix_tcpdef.specs.Stands.{HasOpened}
-use Rattle.ix_tcpdef.specs.Numbers.{number, ahead, is_past, is_at_or_past}
+use Rattle.ix_tcpdef.specs.Sound.{HasOpened}
+use Rattle.ix_base.specs.Sequence.{number, ahead, is_past, is_at_or_past}
 
 -- Where the position q is not before p, it is as far from it as its number.
 abbrev pub CountsAhead : Type 0

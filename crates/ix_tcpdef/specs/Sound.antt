@@ -1,7 +1,7 @@
 -- What a connection keeps.
 use Rattle.std.specs.Prelude.{◌≡◌, ℕ, ◌+◌, ◌-◌, ◌^◌, ◌<◌, ◌≤◌, Bool, true, false, ◌||◌, List, [], ◌∷◌, length}
 use Rattle.ix_tcpdef.specs.Needs.{EndsBy, LiesInFrames, AreParts, carries, IsFramed}
-use Rattle.ix_tcpdef.specs.Connection.{is_listen, is_syn_sent}
+use Rattle.ix_tcpdef.specs.Connection.{is_listen, is_syn_sent, is_syn_received}
 use Rattle.ix_tcpdef.specs.declared.types.Cfg.{Cfg}
 use Rattle.ix_tcpdef.specs.declared.types.State.{State}
 use Rattle.ix_tcpdef.specs.declared.types.State.TheVariants as st
@@ -111,6 +111,20 @@ pub record IsSound (w : Connection) : Type 0 where
   pub untouched : is_unknown w.state ≡ true → w.held ≡ []
   pub unlost : is_unknown w.state ≡ true → w.ssthresh ≡ 65535
   pub pieces : AreParts w.pieces
+
+-- Before its opening nothing was given to be sent, and in SYN-RECEIVED the SYN alone was sent and is not acknowledged. This tells position 0
+-- from position 2^32 there.
+pub record OpensInOrder (state : State) (una nxt : ℕ) (sent : List ℕ) : Type 0 where
+  pub listening : is_listen state ≡ true → sent ≡ []
+  pub synchronizing : is_syn_received state ≡ true → (una ≡ 0) × (nxt ≡ 1)
+
+abbrev pub HasOpened : Connection → Type 0
+HasOpened w = OpensInOrder w.state w.una w.nxt w.sent
+
+-- what each connection keeps, from its opening on
+pub record IsOrderly (w : Connection) : Type 0 where
+  pub sound : IsSound w
+  pub opened : HasOpened w
 
 -- ## All of it
 pub record IsKept (cfg : Cfg) (w : Connection) : Type 0 where

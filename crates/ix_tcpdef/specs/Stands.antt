@@ -1,8 +1,9 @@
 -- The numbers that stand for a connection (RFC 9293, sections 3.3.1 and 3.4).
-use Rattle.std.specs.Prelude.{◌≡◌, ℕ, ◌-◌, true, List, [], length, drop, map}
-use Rattle.ix_tcpdef.specs.Numbers.{number}
-use Rattle.ix_tcpdef.specs.Connection.{snd_una, snd_nxt, rcv_nxt, queued, is_listen, is_syn_received}
-use Rattle.ix_tcpdef.specs.declared.types.State.{State}
+use Rattle.std.specs.Prelude.{◌≡◌, ℕ, ◌-◌, List, length, drop, map}
+use Rattle.ix_base.specs.Sequence.{number}
+use Rattle.ix_tcpdef.specs.Connection.{snd_una, snd_nxt, rcv_nxt, queued}
+use Rattle.ix_tcpdef.specs.Sound.{IsInRange, IsKept, HasOpened}
+use Rattle.ix_tcpdef.specs.declared.types.Cfg.{Cfg}
 use Rattle.ix_tcpdef.specs.declared.types.Connection.{Connection}
 use Rattle.ix_tcpdef.specs.declared.types.HeldSegment.{HeldSegment}
 use Rattle.ix_tcpdef.specs.declared.types.HeldHead.{HeldHead}
@@ -51,11 +52,11 @@ tcb_of w =
 abbrev pub send_queue : Connection → List ℕ
 send_queue w = drop (w.una - 1) w.sent
 
--- ## What is asked of a connection beside its standing condition
--- Before its opening nothing was given to be sent, and in SYN-RECEIVED the SYN alone was sent and is not acknowledged.
-pub record OpensInOrder (state : State) (una nxt : ℕ) (sent : List ℕ) : Type 0 where
-  pub listening : is_listen state ≡ true → sent ≡ []
-  pub synchronizing : is_syn_received state ≡ true → (una ≡ 0) × (nxt ≡ 1)
-
-abbrev pub HasOpened : Connection → Type 0
-HasOpened w = OpensInOrder w.state w.una w.nxt w.sent
+-- ## What is asked where numbers stand for a connection
+-- These numbers stand for this connection, which keeps what a connection and a configuration in its ranges keep together, and opened in
+-- order. Each step keeps it.
+pub record StandsFor (cfg : Cfg) (t : Tcb) (w : Connection) : Type 0 where
+  pub range : IsInRange cfg
+  pub kept : IsKept cfg w
+  pub opened : HasOpened w
+  pub numbers : t ≡ tcb_of w

@@ -1,6 +1,6 @@
 // The acknowledgement of a segment.
 ghost use Rattle.std.specs.Prelude.{◌≡◌, ◌≤◌, ◌<◌, ◌+◌, ◌-◌, ◌^◌, false, true, IfOk, OnOk};
-ghost use Rattle.ix_tcpdef.specs.Numbers.{is_past as past_test};
+ghost use Rattle.ix_base.specs.Sequence.{is_past as past_test};
 ghost use Rattle.ix_tcpdef.specs.Connection.{on, snd_nxt as snd_nxt_of, acked_data as acked_data_of};
 ghost use Rattle.ix_tcpdef.specs.Arrival.{next};
 ghost use Rattle.ix_tcpdef.specs.Needs.{IsReady, SameReceiver};
@@ -21,18 +21,16 @@ ghost use Rattle.ix_tcpdef.specs.Acknowledgement.{
   acknowledgement as acknowledgement_part,
 };
 
-use crate::arrival::{is_syn_received, is_time_wait};
-use crate::connection::{
-    acked_data, end, give, grown, loss_threshold, room, snd_nxt, snd_una, tell,
-};
+use crate::congestion::grown;
+use crate::connection::{acked_data, end, give, loss_threshold, room, snd_nxt, snd_una, tell};
 use crate::frames::{ack_frame, reset_frame};
-use crate::numbers::{further, has_flag, is_at_or_past, is_past, later};
-use crate::types::{Cfg, Connection, FIN, Job, Output, State, Told};
-use ix_base::{NoMemory, SegHead};
+use crate::numbers::{further, later};
+use crate::types::{Cfg, Connection, Job, Output, State, Told};
+use ix_base::{FIN, NoMemory, SegHead, SeqNumber, has_flag};
 use std::alloc::Global;
 
 /// How many duplicate acknowledgements came before the one that starts fast retransmit.
-const DUPLICATES_BEFORE: u8 = 2;
+pub const DUPLICATES_BEFORE: u8 = 2;
 
 /// The acknowledgement of the own SYN-ACK.
 #[tactic(auto, unfolding(crate::specs::Acknowledgement::establishing))]
@@ -42,14 +40,15 @@ pub fn establishing(alloc: Global, head: &SegHead, job: &mut Job) -> Result<bool
 {
     let w = &job.connection;
     let una = snd_una(w);
-    if !is_past(una, head.ack) || is_past(snd_nxt(w), head.ack) {
+    let ack = SeqNumber(head.ack);
+    if !ack.is_past(una) || ack.is_past(snd_nxt(w)) {
         let frame = reset_frame(alloc, w, head);
         give(job, frame)?;
         return Ok(true);
     }
     let w = &mut job.connection;
     w.state = State::Established;
-    w.una = further(w.una, u64::from(head.ack.wrapping_sub(una)))?;
+    w.una = further(w.una, u64::from(una.ahead(ack)))?;
     w.wnd = u32::from(head.window);
     w.wl1 = head.seq;
     w.wl2 = head.ack;
@@ -68,7 +67,7 @@ pub fn too_far(alloc: Global, cfg: &Cfg, head: &SegHead, job: &mut Job) -> Resul
     ensures step { IfOk result (λ stops. next stops job.new ≡ too_far_part cfg.now head.now job.old) }
 {
     let w = &job.connection;
-    if !is_past(snd_nxt(w), head.ack) {
+    if !SeqNumber(head.ack).is_past(snd_nxt(w)) {
         return Ok(false);
     }
     let frame = ack_frame(alloc, cfg, w);
@@ -76,10 +75,11 @@ pub fn too_far(alloc: Global, cfg: &Cfg, head: &SegHead, job: &mut Job) -> Resul
     Ok(true)
 }
 
+/// Whether an acknowledgement says again what was said before (RFC 5681, section 2).
 pub fn is_duplicate(head: &SegHead, w: &Connection) -> bool
     ensures { result ≡ duplicate_test head.now w.now }
 {
-    head.ack == snd_una(w)
+    SeqNumber(head.ack) == snd_una(w)
         && w.una < w.nxt
         && head.len == 0
         && !has_flag(head.flags, FIN)
@@ -144,10 +144,11 @@ pub fn advance(cfg: &Cfg, head: &SegHead, now: u64, w: &mut Connection) -> Resul
     ensures step { OnOk result (w.new ≡ advanced_part cfg.now head.now now w.old) }
 {
     let una = snd_una(w);
-    if !is_past(una, head.ack) {
+    let ack = SeqNumber(head.ack);
+    if !ack.is_past(una) {
         return Ok(());
     }
-    let octets = head.ack.wrapping_sub(una);
+    let octets = una.ahead(ack);
     w.cwnd = opened_window(octets, w);
     w.recovering = false;
     w.dups = 0;
@@ -166,7 +167,9 @@ pub fn advance(cfg: &Cfg, head: &SegHead, now: u64, w: &mut Connection) -> Resul
 pub fn is_newer(head: &SegHead, w: &Connection) -> bool
     ensures { result ≡ newer_test head.now w.now }
 {
-    is_past(w.wl1, head.seq) || w.wl1 == head.seq && is_at_or_past(w.wl2, head.ack)
+    let is_last = w.wl1 == head.seq;
+    SeqNumber(head.seq).is_past(SeqNumber(w.wl1))
+        || is_last && SeqNumber(head.ack).is_at_or_past(SeqNumber(w.wl2))
 }
 
 /// Clears the persist timer.
@@ -174,20 +177,20 @@ pub fn unpersist(w: &mut Connection)
     ensures { w.new ≡ unpersisted_part w.old }
 {
     w.expiries = 0;
-    if !is_time_wait(w.state) {
+    if !w.state.is_time_wait() {
         w.deadline = None;
     }
 }
 
 /// Takes the peer's window.
 #[tactic(auto, unfolding(crate::specs::Acknowledgement::windowed))]
-pub fn take_window(head: &SegHead, before: u32, w: &mut Connection)
+pub fn take_window(head: &SegHead, before: SeqNumber, w: &mut Connection)
     ensures una { w.new.una ≡ w.old.una }
     ensures sent { w.new.sent ≡ w.old.sent }
     ensures kept { SameReceiver w.old w.new }
-    ensures step { w.new ≡ windowed_part head.now before w.old }
+    ensures step { w.new ≡ windowed_part head.now before.0 w.old }
 {
-    if !(is_at_or_past(before, head.ack) && is_newer(head, w)) {
+    if !(SeqNumber(head.ack).is_at_or_past(before) && is_newer(head, w)) {
         return;
     }
     w.wnd = u32::from(head.window);
@@ -292,7 +295,7 @@ pub fn acknowledgement(
     ensures kept { IfOk result (λ stops. stops ≡ false → SameReceiver job.old.connection job.new.connection) }
     ensures step { IfOk result (λ stops. next stops job.new ≡ acknowledgement_part cfg.now head.now now job.old) }
 {
-    if is_syn_received(job.connection.state) {
+    if job.connection.state.is_syn_received() {
         establishing(alloc, head, job)
     } else {
         synchronized(alloc, cfg, head, now, job)

@@ -1,6 +1,5 @@
 // Arrival of a segment in SYN-RECEIVED and later, up to its acknowledgement.
 ghost use Rattle.std.specs.Prelude.{◌≡◌, ◌≤◌, ◌+◌, ◌^◌, ◌-ℤ◌, ◌≤ℤ◌, ◌<ℤ◌, pos, false, IfOk};
-ghost use Rattle.ix_tcpdef.specs.Connection.{is_time_wait as time_wait_test, is_syn_received as syn_received_test};
 ghost use Rattle.ix_tcpdef.specs.Arrival.{
   next,
   span as span_of,
@@ -13,12 +12,12 @@ ghost use Rattle.ix_tcpdef.specs.Arrival.{
 
 use crate::connection::{end, give, rcv_nxt, rcv_wnd, seq_of, tell};
 use crate::frames::ack_frame;
-use crate::numbers::{has_flag, is_next, later, lies_in};
-use crate::types::{ACK, Cfg, FIN, Job, RST, SYN, State, Told};
-use ix_base::{NoMemory, SegHead};
+use crate::numbers::later;
+use crate::types::{Cfg, Job, Told};
+use ix_base::{ACK, FIN, NoMemory, RST, SYN, SegHead, SeqNumber, has_flag, is_next, lies_in};
 use std::alloc::Global;
 
-/// Everything that a segment takes up.
+/// How many octets a segment takes up: its body, its SYN and its FIN (RFC 9293, section 3.4).
 pub fn span(head: &SegHead) -> u32
     ensures value { result ≡ span_of head.now }
     ensures bound { result ≤ 65537 }
@@ -28,7 +27,8 @@ pub fn span(head: &SegHead) -> u32
     u32::from(head.len) + syn + fin
 }
 
-/// Whether so many octets from this one on are acceptable.
+/// Whether so many octets from this one on are acceptable, where the first stands so far past RCV.NXT (RFC 9293, section 3.10.7.4, first
+/// check).
 pub fn is_acceptable(octets: u32, window: u16, seq: i64) -> bool
     requires octets { octets ≤ 65537 }
     requires low { (pos 0 -ℤ pos (2 ^ 31)) ≤ℤ seq }
@@ -67,7 +67,7 @@ pub fn acceptability(
         return Ok(true);
     }
     let frame = ack_frame(alloc, cfg, w);
-    if has_flag(head.flags, FIN) && is_time_wait(w.state) {
+    if has_flag(head.flags, FIN) && w.state.is_time_wait() {
         job.connection.deadline = Some(later(now, cfg.time_wait));
     }
     give(job, frame)?;
@@ -83,7 +83,7 @@ pub fn reset(alloc: Global, cfg: &Cfg, head: &SegHead, job: &mut Job) -> Result<
     if !has_flag(head.flags, RST) {
         return Ok(false);
     }
-    if head.seq == rcv_nxt(&job.connection) {
+    if SeqNumber(head.seq) == rcv_nxt(&job.connection) {
         end(alloc, &mut job.connection);
         tell(job, Told::DeadReset)?;
     } else {
@@ -107,7 +107,7 @@ pub fn synchronize(
     if !has_flag(head.flags, SYN) {
         return Ok(false);
     }
-    if is_syn_received(job.connection.state) {
+    if job.connection.state.is_syn_received() {
         end(alloc, &mut job.connection);
     } else {
         let frame = ack_frame(alloc, cfg, &job.connection);
@@ -122,16 +122,4 @@ pub fn unacknowledged(head: &SegHead, job: &Job) -> bool
     ensures { next result job.now ≡ unacknowledged_part head.now job.now }
 {
     !has_flag(head.flags, ACK)
-}
-
-pub fn is_time_wait(state: State) -> bool
-    ensures { result ≡ time_wait_test state }
-{
-    matches!(state, State::TimeWait)
-}
-
-pub fn is_syn_received(state: State) -> bool
-    ensures { result ≡ syn_received_test state }
-{
-    matches!(state, State::SynReceived)
 }

@@ -11,7 +11,6 @@ ghost use Rattle.ix_tcpdef.specs.Body.{
   held_among,
   waiting,
   received as received_part,
-  takes_body as takes_body_test,
   ends_next as ends_next_test,
   body as body_part,
   fin_taken as fin_taken_part,
@@ -21,14 +20,16 @@ ghost use Rattle.ix_tcpdef.specs.Body.{
 
 use crate::connection::{give, rcv_nxt, rcv_wnd, seq_of, tell};
 use crate::frames::ack_frame;
-use crate::numbers::{behind, further, has_flag, is_next, is_past, later, past};
-use crate::types::{Cfg, Connection, FIN, HeldSegment, Job, Octets, Output, Piece, State, Told};
-use ix_base::{Bytes, List, NoMemory, Seg, SegHead, WireNo};
+use crate::numbers::{further, later};
+use crate::types::{Cfg, Connection, HeldSegment, Job, Octets, Output, Piece, State, Told};
+use ix_base::{
+    Bytes, FIN, List, NoMemory, Seg, SegHead, SeqNumber, WireNo, behind, has_flag, is_next, past,
+};
 use std::alloc::Global;
 use std::mem;
 
 /// How many segments are held out of order.
-const MOST_HELD: usize = 8;
+pub const MOST_HELD: usize = 8;
 
 /// The octets of a body that lie in the window, where its first stands at this distance from what is expected.
 #[tactic(auto, unfolding(crate::specs::Body::octets))]
@@ -215,15 +216,6 @@ pub fn receive(
     Ok(false)
 }
 
-pub fn takes_body(state: State) -> bool
-    ensures { result ≡ takes_body_test state }
-{
-    matches!(
-        state,
-        State::Established | State::FinWait1 | State::FinWait2
-    )
-}
-
 /// Whether the segment's own FIN stands at what is expected.
 pub fn ends_next(seg: &Seg, w: &Connection) -> bool
     requires { length seg.now.body < 2 ^ 16 }
@@ -243,7 +235,7 @@ pub fn body(alloc: Global, cfg: &Cfg, w: WireNo, seg: &Seg, job: &mut Job) -> Re
     ensures { IfOk result (λ stands. ◌≡◌ {A = AJob × Bool} (job.new, stands) (body_part cfg.now w seg.now job.old)) }
 {
     let c = &job.connection;
-    if !takes_body(c.state) {
+    if !c.state.takes_body() {
         return Ok(ends_next(seg, c));
     }
     let window = rcv_wnd(cfg, c);
@@ -296,7 +288,7 @@ pub fn finish(
         return take_fin(alloc, cfg, now, job);
     }
     let has_fin = has_flag(head.flags, FIN) && head.len == 0;
-    if has_fin && is_past(rcv_nxt(&job.connection), head.seq) {
+    if has_fin && SeqNumber(head.seq).is_past(rcv_nxt(&job.connection)) {
         let frame = ack_frame(alloc, cfg, &job.connection);
         give(job, frame)?;
     }

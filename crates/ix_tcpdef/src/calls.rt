@@ -20,7 +20,6 @@ ghost use Rattle.ix_tcpdef.specs.Needs.{AreParts};
 ghost use Rattle.ix_tcpdef.specs.Connection.{is_listen as listen_test};
 
 use crate::acknowledgement::unpersist;
-use crate::arrival::is_time_wait;
 use crate::connection::{give, rcv_wnd, room};
 use crate::opening::connecting;
 use crate::types::{Ask, Cfg, Connection, Job, Output, Outputs, Piece, State, Told};
@@ -132,7 +131,7 @@ pub fn recv_done(cfg: &Cfg, n: u32, job: &mut Job) -> Result<(), NoMemory>
 pub fn persists(w: &Connection) -> bool
     ensures { result ≡ persists_test w.now }
 {
-    w.una == w.nxt && w.deadline.is_some() && !is_time_wait(w.state)
+    w.una == w.nxt && w.deadline.is_some() && !w.state.is_time_wait()
 }
 
 fn shut_down(alloc: Global, w: &mut Connection)

@@ -5,41 +5,40 @@ ghost use Rattle.ix_tcpdef.specs.Connection.{
   snd_nxt as snd_nxt_of,
   rcv_nxt as rcv_nxt_of,
   seq_of as seq_in,
+  offered_window as offered_of,
   rcv_wnd as rcv_wnd_of,
   acked_data as acked_of,
   room as room_of,
-  initial_window as initial_of,
-  grown as grown_of,
   loss_threshold as threshold_of,
   gives as gives_part,
   tells as tells_part,
   ended as ended_part,
 };
 
-use crate::numbers::{number, offset};
+use crate::congestion::threshold_after_loss;
 use crate::types::{Cfg, Connection, Job, Output, State, Told};
-use ix_base::{List, NoMemory, SegHead};
+use ix_base::{List, NoMemory, SegHead, SeqNumber};
 use std::alloc::Global;
 
-/// The congestion window never passes this size.
-const MOST_CONGESTION_WINDOW: u32 = 131_072;
-
-pub fn snd_una(w: &Connection) -> u32
-    ensures { result ≡ snd_una_of w.now }
+/// The sequence number of SND.UNA.
+pub fn snd_una(w: &Connection) -> SeqNumber
+    ensures { result.0 ≡ snd_una_of w.now }
 {
-    number(w.iss, w.una)
+    SeqNumber(w.iss).at(w.una)
 }
 
-pub fn snd_nxt(w: &Connection) -> u32
-    ensures { result ≡ snd_nxt_of w.now }
+/// The sequence number of SND.NXT.
+pub fn snd_nxt(w: &Connection) -> SeqNumber
+    ensures { result.0 ≡ snd_nxt_of w.now }
 {
-    number(w.iss, w.nxt)
+    SeqNumber(w.iss).at(w.nxt)
 }
 
-pub fn rcv_nxt(w: &Connection) -> u32
-    ensures { result ≡ rcv_nxt_of w.now }
+/// The sequence number of RCV.NXT.
+pub fn rcv_nxt(w: &Connection) -> SeqNumber
+    ensures { result.0 ≡ rcv_nxt_of w.now }
 {
-    number(w.irs, w.rcv)
+    SeqNumber(w.irs).at(w.rcv)
 }
 
 /// How far a segment begins past what is expected.
@@ -48,14 +47,21 @@ pub fn seq_of(w: &Connection, head: &SegHead) -> i64
     ensures low { (pos 0 -ℤ pos (2 ^ 31)) ≤ℤ result }
     ensures high { result <ℤ pos (2 ^ 31) }
 {
-    offset(rcv_nxt(w), head.seq)
+    rcv_nxt(w).offset(SeqNumber(head.seq))
+}
+
+/// The window in bytes that is offered to the peer where so many bytes are unread.
+pub fn offered_window(cfg: &Cfg, unread: u32) -> u16
+    ensures { result ≡ offered_of cfg.now unread }
+{
+    u32::from(cfg.window).saturating_sub(unread) as u16
 }
 
 /// The window that is offered to the peer.
 pub fn rcv_wnd(cfg: &Cfg, w: &Connection) -> u16
     ensures { result ≡ rcv_wnd_of cfg.now w.now }
 {
-    u32::from(cfg.window).saturating_sub(w.unread) as u16
+    offered_window(cfg, w.unread)
 }
 
 /// How many bytes of the stream are acknowledged.
@@ -74,35 +80,13 @@ pub fn room(w: &Connection) -> u32
     u64::from(wnd).saturating_sub(queued) as u32
 }
 
-/// The congestion window at the opening.
-pub fn initial_window(mss: u16) -> u32
-    ensures { result ≡ initial_of mss }
-{
-    let mss = u32::from(mss);
-    if mss > 2190 {
-        2 * mss
-    } else if mss > 1095 {
-        3 * mss
-    } else {
-        4 * mss
-    }
-}
-
-/// The congestion window, so many bytes larger.
-pub fn grown(cwnd: u32, by: u32) -> u32
-    ensures { result ≡ grown_of cwnd by }
-{
-    cwnd.saturating_add(by).min(MOST_CONGESTION_WINDOW)
-}
-
 /// The slow start threshold after a loss.
 pub fn loss_threshold(w: &Connection) -> u32
     requires { w.now.nxt ≤ w.now.una + 65536 }
     ensures { result ≡ threshold_of w.now }
 {
-    let mss = w.mss;
     let flight = w.nxt.saturating_sub(w.una) as u32;
-    (flight / 2).max(2 * u32::from(mss))
+    threshold_after_loss(flight, w.mss)
 }
 
 /// Gives an output.

@@ -1,7 +1,8 @@
 // Copies: a step leaves the connection that it is made from as it was.
-ghost use Rattle.std.specs.Prelude.{◌≡◌, IfOk};
+ghost use Rattle.std.specs.Prelude.{◌≡◌, ◌≤◌, IfOk, length};
 
-use crate::types::{Connection, HeldSegment, Piece};
+use crate::types::{Connection, HeldHead, HeldSegment, Piece, Tcb};
+use arrayvec::ArrayVec;
 use ix_base::{Bytes, List, NoMemory};
 use std::alloc::Global;
 
@@ -84,4 +85,55 @@ pub fn copy(alloc: Global, w: &Connection) -> Result<Connection, NoMemory>
         accepted: w.accepted,
         shut: w.shut,
     })
+}
+
+fn copy_heads(heads: &[HeldHead]) -> ArrayVec<HeldHead, 8>
+    requires { length heads.now ≤ 8 }
+    ensures { result.items ≡ heads.now }
+{
+    let mut copies = ArrayVec::new();
+    for head in heads {
+        copies.push(*head);
+    }
+    copies
+}
+
+impl Tcb {
+    /// The same numbers once more. It takes no memory, so that a caller that finds none later can leave its own numbers as they were.
+    pub fn copy(&self) -> Tcb
+        ensures { result ≡ self.now }
+    {
+        let _held = self.held.len(); // a proof knows the room of what is asked for its length
+        Tcb {
+            flow: self.flow,
+            peer_mac: self.peer_mac,
+            state: self.state,
+            iss: self.iss,
+            irs: self.irs,
+            una: self.una,
+            nxt: self.nxt,
+            wnd: self.wnd,
+            wl1: self.wl1,
+            wl2: self.wl2,
+            rcv_nxt: self.rcv_nxt,
+            unread: self.unread,
+            mss: self.mss,
+            queued: self.queued,
+            expiries: self.expiries,
+            deadline: self.deadline,
+            held: copy_heads(self.held.as_slice()),
+            cwnd: self.cwnd,
+            ssthresh: self.ssthresh,
+            dups: self.dups,
+            recovering: self.recovering,
+            resend: self.resend,
+            fin_wanted: self.fin_wanted,
+            fin_sent: self.fin_sent,
+            wants: self.wants,
+            ack_owed: self.ack_owed,
+            knocked: self.knocked,
+            accepted: self.accepted,
+            shut: self.shut,
+        }
+    }
 }

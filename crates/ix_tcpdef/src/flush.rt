@@ -7,9 +7,7 @@ ghost use Rattle.ix_tcpdef.specs.Flush.{
   unsent as unsent_of,
   first_of as first_of_part,
   first_unacked as first_unacked_of,
-  resends as resends_test,
   resent as resent_part,
-  sends as sends_test,
   usable as usable_of,
   data_frames,
   data_sent as data_sent_part,
@@ -74,24 +72,6 @@ fn first_of(alloc: Global, cfg: &Cfg, w: &Connection, bytes: &[u8]) -> Result<Ou
     Ok(data_frame(cfg, w, w.una, first))
 }
 
-pub fn resends(state: State) -> bool
-    ensures { result ≡ resends_test state }
-{
-    matches!(
-        state,
-        State::Established | State::CloseWait | State::FinWait1 | State::Closing | State::LastAck
-    )
-}
-
-pub fn sends(state: State) -> bool
-    ensures { result ≡ sends_test state }
-{
-    matches!(
-        state,
-        State::Established | State::CloseWait | State::FinWait1 | State::LastAck
-    )
-}
-
 /// First: the resend that fast retransmit asked for.
 #[tactic(auto, unfolding(crate::specs::Flush::resent))]
 pub fn resend(alloc: Global, cfg: &Cfg, job: &mut Job) -> Result<(), NoMemory>
@@ -99,7 +79,7 @@ pub fn resend(alloc: Global, cfg: &Cfg, job: &mut Job) -> Result<(), NoMemory>
     ensures connection { OnOk result (job.new.connection ≡ record job.old.connection { resend = job.new.connection.resend }) }
     ensures step { OnOk result (job.new ≡ resent_part cfg.now job.old) }
 {
-    if !(job.connection.resend && resends(job.connection.state)) {
+    if !(job.connection.resend && job.connection.state.resends()) {
         return Ok(());
     }
     let frame = first_unacked(alloc, cfg, &job.connection)?;
@@ -153,7 +133,7 @@ pub fn send_data(alloc: Global, cfg: &Cfg, job: &mut Job) -> Result<(), NoMemory
     ensures step { OnOk result (job.new ≡ data_sent_part cfg.now job.old) }
 {
     let w = &job.connection;
-    if !sends(w.state) {
+    if !w.state.sends() {
         return Ok(());
     }
     let unsent = unsent(w);
@@ -170,7 +150,7 @@ pub fn send_fin(alloc: Global, cfg: &Cfg, job: &mut Job) -> Result<(), NoMemory>
     ensures step { OnOk result (job.new ≡ fin_sent_part cfg.now job.old) }
 {
     let w = &job.connection;
-    let due = sends(w.state) && w.fin_wanted && !w.fin_sent && unsent(w).is_empty();
+    let due = w.state.sends() && w.fin_wanted && !w.fin_sent && unsent(w).is_empty();
     if !due {
         return Ok(());
     }

@@ -11,22 +11,21 @@ ghost use Rattle.ix_tcpdef.specs.Frames.{
 };
 
 use crate::connection::{rcv_nxt, rcv_wnd, snd_nxt};
-use crate::numbers::number;
-use crate::types::{ACK, BEHIND_HEADER, BEHIND_SYN, Cfg, Connection, FIN, Output, PSH, RST, SYN};
-use ix_base::{Bytes, Seg, SegHead};
+use crate::types::{BEHIND_HEADER, BEHIND_SYN, Cfg, Connection, Output};
+use ix_base::{ACK, Bytes, FIN, PSH, RST, SYN, Seg, SegHead, SeqNumber};
 use std::alloc::Global;
 
 /// A segment with ACK at this sequence number.
-pub fn plain_frame(cfg: &Cfg, w: &Connection, seq: u32, flags: u8, body: Bytes) -> Output
+pub fn plain_frame(cfg: &Cfg, w: &Connection, seq: SeqNumber, flags: u8, body: Bytes) -> Output
     requires { length body < 2 ^ 16 }
-    ensures { result ≡ plain_frame_of cfg.now w.now seq flags body }
+    ensures { result ≡ plain_frame_of cfg.now w.now seq.0 flags body }
 {
     Output::Frame(Seg {
         head: SegHead {
             flow: w.flow,
             peer_mac: w.peer_mac,
-            seq,
-            ack: rcv_nxt(w),
+            seq: seq.0,
+            ack: rcv_nxt(w).0,
             flags,
             window: rcv_wnd(cfg, w),
             mss: None,
@@ -72,7 +71,7 @@ pub fn syn_frame(alloc: Global, cfg: &Cfg, w: &Connection) -> Output
         head: SegHead {
             flow: w.flow,
             peer_mac: w.peer_mac,
-            seq: number(w.iss, 0),
+            seq: SeqNumber(w.iss).at(0).0,
             ack: 0,
             flags: SYN,
             window: rcv_wnd(cfg, w),
@@ -92,8 +91,8 @@ pub fn syn_ack_frame(alloc: Global, cfg: &Cfg, w: &Connection) -> Output
         head: SegHead {
             flow: w.flow,
             peer_mac: w.peer_mac,
-            seq: number(w.iss, 0),
-            ack: rcv_nxt(w),
+            seq: SeqNumber(w.iss).at(0).0,
+            ack: rcv_nxt(w).0,
             flags: SYN + ACK,
             window: rcv_wnd(cfg, w),
             mss: Some(cfg.mss),
@@ -113,12 +112,18 @@ pub fn data_frame(cfg: &Cfg, w: &Connection, at: u64, bytes: Bytes) -> Output
 {
     let ends_queue = at - 1 + bytes.len() as u64 == w.sent.len() as u64;
     let flags = if ends_queue { PSH + ACK } else { ACK };
-    plain_frame(cfg, w, number(w.iss, at), flags, bytes)
+    plain_frame(cfg, w, SeqNumber(w.iss).at(at), flags, bytes)
 }
 
 /// The FIN at this position.
 pub fn fin_frame(alloc: Global, cfg: &Cfg, w: &Connection, at: u64) -> Output
     ensures { result ≡ fin_frame_of cfg.now w.now at }
 {
-    plain_frame(cfg, w, number(w.iss, at), FIN + ACK, Bytes::new(alloc))
+    plain_frame(
+        cfg,
+        w,
+        SeqNumber(w.iss).at(at),
+        FIN + ACK,
+        Bytes::new(alloc),
+    )
 }

@@ -1,6 +1,10 @@
 // Laws over runs of a connection, and over the numbers that stand for it.
 ghost use Rattle.ix_tcpdef.specs.Laws.{RunsKeep, RunsSendFairly};
 ghost use Rattle.ix_tcpdef.specs.Delivered.{RunsDeliver, RunsAgree};
+ghost use Rattle.ix_tcpdef.specs.Arrivals.{AcknowledgementsKeep, HoldsInPlace};
+ghost use Rattle.ix_tcpdef.specs.Standing.{StandsFirst, StandsOn};
+ghost use Rattle.ix_tcpdef.specs.Lived.{AllBegin, StepsLive, RunsLive};
+ghost use Rattle.ix_tcpdef.specs.Onward.{StepsGoOnward, FollowsNumbers};
 ghost use Rattle.ix_tcpdef.specs.Positions.{CountsAhead, TestsPast, TestsAtOrPast, TellsApart, GoesOn, FindsPosition, BeginsOpening, StepsOpen};
 
 /// Nothing happens here: the contract says what is true of every run of a connection under a configuration in range, from any connection
@@ -33,4 +37,35 @@ pub fn numbers_stand_for_positions()
 pub fn openings_stand()
     ensures begins { BeginsOpening }
     ensures steps { StepsOpen }
+{}
+
+/// Nothing happens here: the contract says that every step of a connection that was opened moves SND.UNA and SND.NXT forward, by less than
+/// 2^32 each, and RCV.NXT likewise where the peer's initial number is known; the initial numbers stay. So a position before a step and its
+/// number after the step give the position after it.
+pub fn positions_go_onward()
+    ensures steps { StepsGoOnward }
+    ensures follows { FollowsNumbers }
+{}
+
+/// Nothing happens here: the contract says what is true of a connection that ran from its beginning, whatever happened to it, and that a
+/// connection before its opening keeps what connections keep. Of an accepted connection all parts were told, of another none; where the
+/// peer's initial number is unknown nothing came; a connection that has ended holds nothing and has no deadline.
+pub fn runs_begin_and_end()
+    ensures begins { AllBegin }
+    ensures steps { StepsLive }
+    ensures runs { RunsLive }
+{}
+
+/// Nothing happens here: the contract says that numbers stand for a connection before its opening, and that numbers which a call leaves
+/// stand for the connection after a step where they are its numbers.
+pub fn numbers_stand_on()
+    ensures first { StandsFirst }
+    ensures on { StandsOn }
+{}
+
+/// Nothing happens here: the contract says what an arrival keeps on its way. Behind the check of its acknowledgement a connection keeps what
+/// connections keep; a segment that is held stands behind those held segments that begin before it.
+pub fn arrivals_keep()
+    ensures acknowledgements { AcknowledgementsKeep }
+    ensures held { HoldsInPlace }
 {}

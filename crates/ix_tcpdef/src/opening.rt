@@ -10,22 +10,23 @@ ghost use Rattle.ix_tcpdef.specs.Opening.{
   syn_sent as syn_sent_part,
 };
 
-use crate::connection::{end, give, initial_window};
+use crate::congestion::initial_window;
+use crate::connection::{end, give};
 use crate::frames::{reset_frame, syn_ack_frame, syn_frame};
-use crate::numbers::{has_flag, later, number};
-use crate::types::{ACK, Cfg, Job, Output, RST, SYN, State, Told};
-use ix_base::{NoMemory, SegHead};
+use crate::numbers::later;
+use crate::types::{Cfg, Job, Output, State, Told};
+use ix_base::{ACK, NoMemory, RST, SYN, SegHead, SeqNumber, has_flag};
 use std::alloc::Global;
 
-/// The largest body of a segment to a peer that has no option.
+/// The largest body in octets of a segment to a peer that has no option (RFC 9293, section 3.7.1).
 pub const DEFAULT_MSS: u16 = 536;
 
 const LEAST_MSS: u16 = 64;
 
-/// The threshold of slow start before any loss.
+/// The slow start threshold in octets before any loss (RFC 5681, section 3.1).
 pub const FIRST_THRESHOLD: u32 = 65_535;
 
-/// The largest body that is sent to a peer with this option.
+/// The largest body in octets that is sent to a peer with this option, or without one (RFC 9293, section 3.7.1).
 pub fn send_mss(cfg: &Cfg, option: Option<u16>) -> u16
     ensures { result ≡ send_mss_of cfg.now option }
 {
@@ -100,7 +101,7 @@ pub fn syn_sent(alloc: Global, cfg: &Cfg, head: &SegHead, job: &mut Job) -> Resu
 {
     let has_ack = has_flag(head.flags, ACK);
     let has_reset = has_flag(head.flags, RST);
-    if has_ack && head.ack != number(job.connection.iss, 1) {
+    if has_ack && SeqNumber(head.ack) != SeqNumber(job.connection.iss).at(1) {
         if has_reset {
             return Ok(());
         }

@@ -6,7 +6,6 @@ ghost use Rattle.ix_tcpdef.specs.Sound.{IsSound, IsStanding, IsWritten, HasWindo
 ghost use Rattle.ix_tcpdef.specs.Step.{
   checked as checked_part,
   arrived as arrived_part,
-  is_alive as alive_test,
   stepped as stepped_part,
 };
 
@@ -83,13 +82,6 @@ pub fn arrive(
     }
 }
 
-/// Whether a connection was opened and has not ended.
-pub fn is_alive(state: State) -> bool
-    ensures { result ≡ alive_test state }
-{
-    !matches!(state, State::Listen | State::Closed)
-}
-
 /// One input.
 #[tactic(auto, unfolding(crate::specs::Step::stepped))]
 pub fn make_step(
@@ -108,14 +100,14 @@ pub fn make_step(
     match input {
         Input::Segment { w, seg } => arrive(alloc, cfg, *w, seg, now, job),
         Input::Timer => {
-            if is_alive(job.connection.state) {
+            if job.connection.state.is_alive() {
                 expire(alloc, cfg, now, job)?;
             }
             Ok(())
         }
         Input::Call(ask) => call(alloc, cfg, ask, now, job),
         Input::Flush => {
-            if is_alive(job.connection.state) {
+            if job.connection.state.is_alive() {
                 flush(alloc, cfg, now, job)?;
             }
             Ok(())

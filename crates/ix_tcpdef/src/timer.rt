@@ -12,22 +12,21 @@ ghost use Rattle.ix_tcpdef.specs.Flush.{
   expired as expired_part,
 };
 
-use crate::arrival::is_time_wait;
 use crate::connection::{end, give, loss_threshold, tell};
 use crate::flush::first_unacked;
 use crate::frames::plain_frame;
-use crate::numbers::{later, number};
-use crate::types::{ACK, Cfg, Connection, Job, Output, State, Told};
-use ix_base::{Bytes, NoMemory};
+use crate::numbers::later;
+use crate::types::{Cfg, Connection, Job, Output, State, Told};
+use ix_base::{ACK, Bytes, NoMemory, SeqNumber};
 use std::alloc::Global;
 
-/// No timeout is longer.
+/// No timeout is longer, in ticks.
 const LONGEST_WAIT: u32 = 60_000;
 
 /// How often a probe's timeout doubles.
-const MOST_PROBE_EXPIRIES: u8 = 8;
+pub const MOST_PROBE_EXPIRIES: u8 = 8;
 
-/// The timeout after so many expiries in a row.
+/// The timeout in ticks after so many expiries in a row: it doubles with each, up to a minute (RFC 6298, section 5.5).
 pub fn backed_off(cfg: &Cfg, expiries: u8) -> u32
     ensures { result ≡ backed_off_of cfg.now expiries }
 {
@@ -40,6 +39,7 @@ pub fn backed_off(cfg: &Cfg, expiries: u8) -> u32
     wait
 }
 
+/// Whether a deadline is reached.
 pub fn is_due(deadline: Option<u64>, now: u64) -> bool
     ensures { result ≡ due_test deadline now }
 {
@@ -113,7 +113,7 @@ pub fn probe(alloc: Global, cfg: &Cfg, now: u64, job: &mut Job) -> Result<(), No
     ensures { OnOk result (job.new ≡ probed_part cfg.now now job.old) }
 {
     let w = &job.connection;
-    let seq = number(w.iss, w.una.saturating_sub(1));
+    let seq = SeqNumber(w.iss).at(w.una.saturating_sub(1));
     let frame = plain_frame(cfg, w, seq, ACK, Bytes::new(alloc));
     let expiries = w.expiries.saturating_add(1).min(MOST_PROBE_EXPIRIES);
     job.connection.expiries = expiries;
@@ -131,7 +131,7 @@ pub fn expire(alloc: Global, cfg: &Cfg, now: u64, job: &mut Job) -> Result<(), N
     if !is_due(job.connection.deadline, now) {
         return Ok(());
     }
-    if is_time_wait(job.connection.state) {
+    if job.connection.state.is_time_wait() {
         end(alloc, &mut job.connection);
         return Ok(());
     }

@@ -3,20 +3,10 @@
 use arrayvec::ArrayVec;
 use ix_base::{Bytes, Flow, List, Ret, Seg, WireNo};
 
-/// The flag bits of a segment (RFC 9293, section 3.1).
-pub const FIN: u8 = 0x01;
-
-pub const SYN: u8 = 0x02;
-
-pub const RST: u8 = 0x04;
-
-pub const PSH: u8 = 0x08;
-
-pub const ACK: u8 = 0x10;
-
-/// The places in a frame at which a body begins: behind a TCP header with the maximum segment size option, and behind one without options.
+/// The place in a frame at which a body begins, in octets, behind a TCP header with the maximum segment size option (RFC 9293, section 3.2).
 pub const BEHIND_SYN: u16 = 58;
 
+/// The place in a frame at which a body begins, in octets, behind a TCP header without options.
 pub const BEHIND_HEADER: u16 = 54;
 
 /// The numbers of a configuration that a connection obeys. Times are in ticks, sizes in bytes.

@@ -9,8 +9,9 @@ use ix_base::{Bytes, Flow, List, NoMemory, WireNo};
 use std::alloc::Global;
 use std::marker::Model;
 
-/// One connection with whole byte lists. Contracts see these, and each one keeps what *sound* says: SND.UNA is at most SND.NXT, which stands
-/// behind no more than all bytes that were given, the SYN and the FIN; what is held waits behind a hole, in order.
+/// One connection with whole byte lists. Contracts see these, and each one is orderly. It is sound: SND.UNA is at most SND.NXT, which stands
+/// behind no more than all bytes that were given, the SYN and the FIN; what is held waits behind a hole, in order. And it opened in order:
+/// before its opening nothing was given to be sent, and in SYN-RECEIVED the SYN alone was sent and is not acknowledged.
 #[derive(Drop)]
 pub struct World1 {
     connection: Connection,
@@ -18,19 +19,19 @@ pub struct World1 {
 
 impl Model for World1 {
     ghost use Rattle.ix_tcpdef.specs.declared.types.Connection.{Connection as AConnection};
-    ghost use Rattle.ix_tcpdef.specs.Sound.{IsSound};
+    ghost use Rattle.ix_tcpdef.specs.Sound.{IsOrderly};
 
     ghost Value = { AConnection };
 
     ghost view = { λ a. a.connection };
 
-    ghost invariant = { λ a. IsSound a.connection };
+    ghost invariant = { λ a. IsOrderly a.connection };
 }
 
 impl World1 {
     ghost use Rattle.ix_tcpdef.specs.Step.{listening};
     ghost use Rattle.ix_tcpdef.specs.World.{left_of, held_number};
-    ghost use Rattle.ix_tcpdef.specs.Sound.{IsSound};
+    ghost use Rattle.ix_tcpdef.specs.Sound.{IsSound, HasOpened};
 
     /// A connection before its opening, by a SYN of its peer or by a call.
     pub fn listen(alloc: Global, flow: Flow, peer_mac: [u8; 6], iss: u32) -> World1
@@ -78,6 +79,7 @@ impl World1 {
         ensures order { result.una ≤ result.nxt }
         ensures within { result.nxt ≤ length self.now.sent + 2 }
         ensures sound { IsSound self.now }
+        ensures opened { HasOpened self.now }
     {
         let w = &self.connection;
         Left {
@@ -116,7 +118,7 @@ impl World1 {
     }
 }
 
-ghost use Rattle.ix_tcpdef.specs.Sound.{IsSound, IsStanding, IsInRange, IsWritten};
+ghost use Rattle.ix_tcpdef.specs.Sound.{IsSound, HasOpened, IsStanding, IsInRange, IsWritten};
 ghost use Rattle.ix_tcpdef.specs.Step.{step};
 ghost use Rattle.ix_tcpdef.specs.Laws.{SendsFairly};
 
@@ -138,6 +140,7 @@ pub fn step_plain(
     ensures connection { IfOk result (λ r. r.0 ≡ (step cfg.now world.now input.now now).connection) }
     ensures outputs { IfOk result (λ r. r.1 ≡ (step cfg.now world.now input.now now).outputs) }
     ensures sound { IfOk result (λ r. IsSound r.0) }
+    ensures opened { IfOk result (λ r. HasOpened r.0) }
     ensures standing { IfOk result (λ r. IsStanding cfg.now r.0) }
     ensures frames { IfOk result (λ r. SendsFairly world.now r.0 r.1) }
 {

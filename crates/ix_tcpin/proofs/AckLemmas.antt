@@ -5,7 +5,8 @@ use Rattle.std.proofs.lemmas.Bool.{cond_both}
 use Rattle.ix_base.specs.declared.id.WireNo.{WireNo}
 use Rattle.ix_base.specs.declared.segment.Seg.{Seg}
 use Rattle.ix_base.specs.declared.segment.SegHead.{SegHead}
-use Rattle.ix_tcpdef.specs.Numbers.{ahead, is_past, is_at_or_past, later}
+use Rattle.ix_base.specs.Sequence.{ahead, is_past, is_at_or_past}
+use Rattle.ix_tcpdef.specs.Ticks.{later}
 use Rattle.ix_tcpdef.specs.Connection.{snd_una, snd_nxt, acked_data, queued, room, is_closed, is_syn_received, on, gives}
 use Rattle.ix_tcpdef.specs.Frames.{ack_frame, reset_frame}
 use Rattle.ix_tcpdef.specs.Arrival.{Goes, Stops, ◌>>=◌}

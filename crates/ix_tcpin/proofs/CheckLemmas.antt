@@ -4,7 +4,8 @@ use Rattle.std.specs.Prelude.{◌&&◌, ◌==◌, not, Some}
 use Rattle.ix_base.specs.declared.id.WireNo.{WireNo}
 use Rattle.ix_base.specs.declared.segment.Seg.{Seg}
 use Rattle.ix_base.specs.declared.segment.SegHead.{SegHead}
-use Rattle.ix_tcpdef.specs.Numbers.{has_flag, later}
+use Rattle.ix_base.specs.Flags.{has_flag}
+use Rattle.ix_tcpdef.specs.Ticks.{later}
 use Rattle.ix_tcpdef.specs.Connection.{seq_of, rcv_wnd, rcv_nxt, is_syn_received, is_time_wait, on, gives, ended}
 use Rattle.ix_tcpdef.specs.Frames.{ack_frame}
 use Rattle.ix_tcpdef.specs.Arrival.{Goes, Stops, span, is_acceptable, acceptability, reset, synchronize, unacknowledged}
@@ -15,7 +16,7 @@ use Rattle.ix_tcpdef.specs.declared.types.Output.{Output}
 use Rattle.ix_tcpdef.specs.declared.types.Output.TheVariants as outputs
 use Rattle.ix_tcpdef.specs.declared.types.Told.{Told}
 use Rattle.ix_tcpdef.specs.declared.types.Told.TheVariants as told
-use Rattle.ix_tcpdef.specs.declared.types.TheConstants.{ACK, FIN, RST, SYN}
+use Rattle.ix_base.specs.declared.segment.TheConstants.{ACK, FIN, RST, SYN}
 use Rattle.ix_tcpdef.specs.Stands.{tcb_of}
 use Rattle.ix_tcpin.specs.Heads.{ack_head}
 use Rattle.ix_tcpin.specs.Work as at_work

@@ -4,7 +4,7 @@ use Rattle.std.specs.Prelude.{nat_lt, nat_le, not, min, map}
 use Rattle.std.proofs.lemmas.Bool.{cases_Bool}
 use Rattle.std.proofs.lemmas.Grind.{common_steps}
 use Rattle.ix_base.specs.declared.id.WireNo.{WireNo}
-use Rattle.ix_tcpdef.specs.Numbers.{number, ahead, is_past}
+use Rattle.ix_base.specs.Sequence.{number, ahead, is_past}
 use Rattle.ix_tcpdef.specs.Connection.{acked_data, rcv_nxt, on, gives}
 use Rattle.ix_tcpdef.specs.Body.{delivered, rest_of, holding, filled}
 use Rattle.ix_tcpdef.specs.Calls.{recv_of}

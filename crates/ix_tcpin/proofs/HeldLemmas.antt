@@ -4,7 +4,7 @@ use Rattle.std.proofs.Math.Seq.{drop-length}
 use Rattle.std.proofs.lemmas.List.{take_more, drop_more, map-append}
 use Rattle.std.specs.Prelude.{nat_lt, slice_get, Some, None}
 use Rattle.std.proofs.lemmas.Grind.{common_steps}
-use Rattle.ix_tcpdef.specs.Numbers.{ahead, is_past}
+use Rattle.ix_base.specs.Sequence.{ahead, is_past}
 use Rattle.ix_tcpdef.specs.declared.types.HeldHead.{HeldHead}
 use Rattle.ix_tcpdef.specs.declared.types.Tcb.{Tcb}
 use Rattle.ix_tcpin.specs.declared.verdict.HeldUse.TheVariants as uses

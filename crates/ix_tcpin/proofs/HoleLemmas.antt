@@ -6,7 +6,7 @@ use Rattle.std.proofs.lemmas.Bool.{cases_Bool}
 use Rattle.std.proofs.lemmas.List.{drop_min, take_min}
 use Rattle.std.proofs.lemmas.Grind.{common_steps}
 use Rattle.ix_base.specs.declared.segment.Seg.{Seg}
-use Rattle.ix_tcpdef.specs.Numbers.{number, ahead, past_of, behind_of}
+use Rattle.ix_base.specs.Sequence.{number, ahead, past_of, behind_of}
 use Rattle.ix_tcpdef.specs.Connection.{seq_of}
 use Rattle.ix_tcpdef.specs.Body.{octets, is_apart, held_among}
 use Rattle.ix_tcpdef.specs.Needs.{EndsBy, IsFramed}

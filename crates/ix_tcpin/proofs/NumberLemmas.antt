@@ -4,7 +4,8 @@ use Rattle.std.specs.Prelude.{nat_lt, ◌&&◌, ◌==◌, not, min, Some, None}
 use Rattle.std.proofs.lemmas.Bool.{cases_Bool, cond_both}
 use Rattle.std.proofs.lemmas.Grind.{common_steps}
 use Rattle.ix_base.specs.declared.segment.SegHead.{SegHead}
-use Rattle.ix_tcpdef.specs.Numbers.{number, ahead, is_past, is_at_or_past, later}
+use Rattle.ix_base.specs.Sequence.{number, ahead, is_past, is_at_or_past}
+use Rattle.ix_tcpdef.specs.Ticks.{later}
 use Rattle.ix_tcpdef.specs.Connection.{snd_una, snd_nxt, acked_data, queued, grown, loss_threshold}
 use Rattle.ix_tcpdef.specs.Acknowledgement.{is_duplicate, duplicated, opened_window, advanced, is_newer, unpersisted, windowed, acked}
 use Rattle.ix_tcpdef.proofs.NumberLemmas.{advance_most, counts_ahead, tells_apart, finds_position}

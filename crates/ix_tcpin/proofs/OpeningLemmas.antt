@@ -4,7 +4,8 @@ use Rattle.std.specs.Prelude.{◌&&◌, ◌==◌, not, map, min, Some}
 use Rattle.ix_base.specs.declared.id.WireNo.{WireNo}
 use Rattle.ix_base.specs.declared.segment.Seg.{Seg}
 use Rattle.ix_base.specs.declared.segment.SegHead.{SegHead}
-use Rattle.ix_tcpdef.specs.Numbers.{number, has_flag}
+use Rattle.ix_base.specs.Sequence.{number}
+use Rattle.ix_base.specs.Flags.{has_flag}
 use Rattle.ix_tcpdef.specs.Connection.{acked_data, is_closed, is_listen, is_syn_sent, on, gives, ended}
 use Rattle.ix_tcpdef.specs.Frames.{reset_frame, syn_ack_frame}
 use Rattle.ix_tcpdef.specs.Opening.{opens, passive, opening, connected, syn_sent}
@@ -16,7 +17,7 @@ use Rattle.ix_tcpdef.specs.declared.types.HeldHead.{HeldHead}
 use Rattle.ix_tcpdef.specs.declared.types.Job.{Job}
 use Rattle.ix_tcpdef.specs.declared.types.Output.TheVariants as outputs
 use Rattle.ix_tcpdef.specs.declared.types.Told.TheVariants as told
-use Rattle.ix_tcpdef.specs.declared.types.TheConstants.{ACK, RST, SYN}
+use Rattle.ix_base.specs.declared.segment.TheConstants.{ACK, RST, SYN}
 use Rattle.ix_tcpdef.specs.Stands.{tcb_of, head_of, HasOpened}
 use Rattle.ix_tcpin.specs.declared.verdict.Verdict.{Verdict}
 use Rattle.ix_tcpin.specs.Heads.{reset_head, syn_ack_head}

@@ -7,7 +7,8 @@ use Rattle.std.proofs.lemmas.List.{drop_min, drop-drop}
 use Rattle.ix_base.specs.declared.id.WireNo.{WireNo}
 use Rattle.ix_base.specs.declared.segment.Seg.{Seg}
 use Rattle.ix_base.specs.declared.segment.SegHead.{SegHead}
-use Rattle.ix_tcpdef.specs.Numbers.{number, ahead, is_past, is_at_or_past, has_flag}
+use Rattle.ix_base.specs.Sequence.{number, ahead, is_past, is_at_or_past}
+use Rattle.ix_base.specs.Flags.{has_flag}
 use Rattle.ix_tcpdef.specs.Connection.{snd_una, snd_nxt, rcv_nxt, acked_data, room, rcv_wnd, seq_of, is_listen, is_syn_sent, is_syn_received, is_time_wait, on, tells, ended}
 use Rattle.ix_tcpdef.specs.Arrival.{Next, Goes, Stops, ◌>>=◌, job_of, span, is_acceptable, acceptability, reset, synchronize, unacknowledged}
 use Rattle.ix_tcpdef.specs.Acknowledgement.{establishing, too_far, is_duplicate, duplicated, advanced, is_newer, windowed, acked, told_sent, fin_acked_in, fin_acked, synchronized, acknowledgement}
@@ -25,7 +26,7 @@ use Rattle.ix_tcpdef.specs.declared.types.Job.{Job}
 use Rattle.ix_tcpdef.specs.declared.types.Octets.{Octets}
 use Rattle.ix_tcpdef.specs.declared.types.Told.{Told}
 use Rattle.ix_tcpdef.specs.declared.types.Told.TheVariants as told
-use Rattle.ix_tcpdef.specs.declared.types.TheConstants.{ACK, FIN, RST, SYN}
+use Rattle.ix_base.specs.declared.segment.TheConstants.{ACK, FIN, RST, SYN}
 use Rattle.ix_tcpdef.specs.Stands.{send_queue, HasOpened}
 use Rattle.ix_tcpin.proofs.OpeningLemmas.{start}
 

@@ -6,7 +6,8 @@ use Rattle.std.proofs.lemmas.Bool.{cases_Bool, cond_both}
 use Rattle.ix_base.specs.declared.id.WireNo.{WireNo}
 use Rattle.ix_base.specs.declared.segment.Seg.{Seg}
 use Rattle.ix_base.specs.declared.segment.SegHead.{SegHead}
-use Rattle.ix_tcpdef.specs.Numbers.{number, is_past, past_of, has_flag}
+use Rattle.ix_base.specs.Sequence.{number, is_past, past_of}
+use Rattle.ix_base.specs.Flags.{has_flag}
 use Rattle.ix_tcpdef.specs.Connection.{rcv_wnd, seq_of, is_closed, is_syn_received, is_time_wait}
 use Rattle.ix_tcpdef.specs.Arrival.{Next, Goes, Stops, ◌>>=◌, span, is_acceptable, acceptability, reset, synchronize, unacknowledged}
 use Rattle.ix_tcpdef.specs.Acknowledgement.{acknowledgement}
@@ -25,7 +26,7 @@ use Rattle.ix_tcpdef.specs.declared.types.Octets.{Octets}
 use Rattle.ix_tcpdef.specs.declared.types.Tcb.{Tcb}
 use Rattle.ix_tcpdef.specs.declared.types.Told.{Told}
 use Rattle.ix_tcpdef.specs.declared.types.Told.TheVariants as told
-use Rattle.ix_tcpdef.specs.declared.types.TheConstants.{ACK, FIN, RST, SYN}
+use Rattle.ix_base.specs.declared.segment.TheConstants.{ACK, FIN, RST, SYN}
 use Rattle.ix_tcpdef.specs.Stands.{tcb_of, head_of, HasOpened}
 use Rattle.ix_tcpin.specs.declared.text.Octets.{Octets as Places}
 use Rattle.ix_tcpin.specs.declared.verdict.Take.{Take}

@@ -8,7 +8,9 @@ use Rattle.std.proofs.lemmas.Grind.{common_steps}
 use Rattle.ix_base.specs.declared.id.WireNo.{WireNo}
 use Rattle.ix_base.specs.declared.segment.Seg.{Seg}
 use Rattle.ix_base.specs.declared.segment.SegHead.{SegHead}
-use Rattle.ix_tcpdef.specs.Numbers.{number, offset, is_past, past_of, is_next, has_flag, later}
+use Rattle.ix_base.specs.Sequence.{number, offset, is_past, past_of, is_next}
+use Rattle.ix_base.specs.Flags.{has_flag}
+use Rattle.ix_tcpdef.specs.Ticks.{later}
 use Rattle.ix_tcpdef.specs.Connection.{acked_data, rcv_nxt, rcv_wnd, seq_of, is_closed, on, gives}
 use Rattle.ix_tcpdef.specs.Frames.{ack_frame}
 use Rattle.ix_tcpdef.specs.Body.{octets, delivered, filled, is_apart, held_among, waiting, received, takes_body, ends_next, body, past_fin, fin_taken_in, fin_taken, finished, text_and_fin}
@@ -28,7 +30,7 @@ use Rattle.ix_tcpdef.specs.declared.types.Piece.{Piece}
 use Rattle.ix_tcpdef.specs.declared.types.Tcb.{Tcb}
 use Rattle.ix_tcpdef.specs.declared.types.Told.{Told}
 use Rattle.ix_tcpdef.specs.declared.types.Told.TheVariants as told
-use Rattle.ix_tcpdef.specs.declared.types.TheConstants.{FIN}
+use Rattle.ix_base.specs.declared.segment.TheConstants.{FIN}
 use Rattle.ix_tcpdef.specs.Stands.{tcb_of, head_of}
 use Rattle.ix_tcpdef.proofs.NumberLemmas.{goes_on}
 use Rattle.ix_tcpin.specs.declared.text.Octets.{Octets as Places}

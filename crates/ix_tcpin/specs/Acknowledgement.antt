@@ -1,14 +1,16 @@
 -- The acknowledgement of a segment over numbers (RFC 9293, section 3.10.7.4, fifth check, and RFC 5681).
 use Rattle.std.specs.Prelude.{ℕ, ◌+◌, ◌-◌, ◌*◌, ◌/◌, Bool, true, false, nat_lt, ◌&&◌, ◌||◌, ◌==◌, not, if◌then◌else◌, min, max, Some, None}
 use Rattle.ix_base.specs.declared.segment.SegHead.{SegHead}
-use Rattle.ix_tcpdef.specs.Numbers.{ahead, is_past, is_at_or_past, has_flag, later}
+use Rattle.ix_base.specs.Sequence.{ahead, is_past, is_at_or_past}
+use Rattle.ix_base.specs.Flags.{has_flag}
+use Rattle.ix_tcpdef.specs.Ticks.{later}
 use Rattle.ix_tcpdef.specs.Connection.{is_syn_received, is_time_wait, grown}
 use Rattle.ix_tcpdef.specs.declared.types.Cfg.{Cfg}
 use Rattle.ix_tcpdef.specs.declared.types.State.{State}
 use Rattle.ix_tcpdef.specs.declared.types.State.TheVariants as st
 use Rattle.ix_tcpdef.specs.declared.types.Tcb.{Tcb}
 use Rattle.ix_tcpdef.specs.declared.types.Told.TheVariants as told
-use Rattle.ix_tcpdef.specs.declared.types.TheConstants.{FIN}
+use Rattle.ix_base.specs.declared.segment.TheConstants.{FIN}
 use Rattle.ix_tcpin.specs.Heads.{ack_head, reset_head}
 use Rattle.ix_tcpin.specs.Work.{Work, Course, Onward, Done, along, on, replies, announces, tells, ends}
 

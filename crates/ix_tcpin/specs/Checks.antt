@@ -1,13 +1,15 @@
 -- The first checks of a segment over numbers (RFC 9293, section 3.10.7.4).
 use Rattle.std.specs.Prelude.{ℕ, ◌&&◌, ◌==◌, not, if◌then◌else◌, Some, ℤ}
 use Rattle.ix_base.specs.declared.segment.SegHead.{SegHead}
-use Rattle.ix_tcpdef.specs.Numbers.{offset, has_flag, later}
+use Rattle.ix_base.specs.Sequence.{offset}
+use Rattle.ix_base.specs.Flags.{has_flag}
+use Rattle.ix_tcpdef.specs.Ticks.{later}
 use Rattle.ix_tcpdef.specs.Connection.{is_syn_received, is_time_wait}
 use Rattle.ix_tcpdef.specs.Arrival.{span, is_acceptable}
 use Rattle.ix_tcpdef.specs.declared.types.Cfg.{Cfg}
 use Rattle.ix_tcpdef.specs.declared.types.Tcb.{Tcb}
 use Rattle.ix_tcpdef.specs.declared.types.Told.TheVariants as told
-use Rattle.ix_tcpdef.specs.declared.types.TheConstants.{ACK, FIN, RST, SYN}
+use Rattle.ix_base.specs.declared.segment.TheConstants.{ACK, FIN, RST, SYN}
 use Rattle.ix_tcpin.specs.Heads.{window, ack_head}
 use Rattle.ix_tcpin.specs.Work.{Work, Course, Onward, Done, on, replies, tells, ends}
 

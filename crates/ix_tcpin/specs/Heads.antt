@@ -1,10 +1,11 @@
 -- The heads of segments that are sent at once, over numbers.
 use Rattle.std.specs.Prelude.{ℕ, ◌+◌, ◌-◌, Some, None}
 use Rattle.ix_base.specs.declared.segment.SegHead.{SegHead}
-use Rattle.ix_tcpdef.specs.Numbers.{number}
+use Rattle.ix_base.specs.Sequence.{number}
 use Rattle.ix_tcpdef.specs.declared.types.Cfg.{Cfg}
 use Rattle.ix_tcpdef.specs.declared.types.Tcb.{Tcb}
-use Rattle.ix_tcpdef.specs.declared.types.TheConstants.{ACK, RST, SYN, BEHIND_HEADER, BEHIND_SYN}
+use Rattle.ix_base.specs.declared.segment.TheConstants.{ACK, RST, SYN}
+use Rattle.ix_tcpdef.specs.declared.types.TheConstants.{BEHIND_HEADER, BEHIND_SYN}
 
 -- RCV.WND
 abbrev pub window : Cfg → Tcb → ℕ

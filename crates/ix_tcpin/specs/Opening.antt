@@ -1,14 +1,16 @@
 -- How a connection opens, over numbers: RFC 9293, sections 3.10.7.2 (LISTEN) and 3.10.7.3 (SYN-SENT).
 use Rattle.std.specs.Prelude.{ℕ, true, nat_lt, ◌&&◌, ◌==◌, not, if◌then◌else◌, Some, None}
 use Rattle.ix_base.specs.declared.segment.SegHead.{SegHead}
-use Rattle.ix_tcpdef.specs.Numbers.{number, has_flag, later}
+use Rattle.ix_base.specs.Sequence.{number}
+use Rattle.ix_base.specs.Flags.{has_flag}
+use Rattle.ix_tcpdef.specs.Ticks.{later}
 use Rattle.ix_tcpdef.specs.Connection.{initial_window}
 use Rattle.ix_tcpdef.specs.Opening.{send_mss, opens}
 use Rattle.ix_tcpdef.specs.declared.types.Cfg.{Cfg}
 use Rattle.ix_tcpdef.specs.declared.types.State.TheVariants as st
 use Rattle.ix_tcpdef.specs.declared.types.Tcb.{Tcb}
 use Rattle.ix_tcpdef.specs.declared.types.Told.TheVariants as told
-use Rattle.ix_tcpdef.specs.declared.types.TheConstants.{ACK, RST, SYN}
+use Rattle.ix_base.specs.declared.segment.TheConstants.{ACK, RST, SYN}
 use Rattle.ix_tcpin.specs.Heads.{reset_head, syn_ack_head}
 use Rattle.ix_tcpin.specs.Work.{Work, on, replies, announces, ends}
 

@@ -27,8 +27,8 @@ use crate::heads::{ack_head, reset_head};
 use crate::numbers::{ahead, has_flag, is_at_or_past, is_past, later};
 use crate::verdict::Verdict;
 use crate::words::{announce, end, grown, is_syn_received, is_time_wait, tell};
-use ix_base::SegHead;
-use ix_tcpdef::{Cfg, FIN, State, Tcb, Told};
+use ix_base::{FIN, SegHead};
+use ix_tcpdef::{Cfg, State, Tcb, Told};
 
 /// How many duplicate acknowledgements came before the one that starts fast retransmit.
 const DUPLICATES_BEFORE: u8 = 2;

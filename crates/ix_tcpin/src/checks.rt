@@ -15,8 +15,8 @@ use crate::heads::{ack_head, window};
 use crate::numbers::{has_flag, is_next, later, lies_in, offset};
 use crate::verdict::Verdict;
 use crate::words::{end, is_syn_received, is_time_wait, tell};
-use ix_base::SegHead;
-use ix_tcpdef::{ACK, Cfg, FIN, RST, SYN, Tcb, Told};
+use ix_base::{ACK, FIN, RST, SYN, SegHead};
+use ix_tcpdef::{Cfg, Tcb, Told};
 
 /// How far a segment begins past what is expected.
 pub fn distance(tcb: &Tcb, head: &SegHead) -> i64

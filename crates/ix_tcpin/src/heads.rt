@@ -8,8 +8,8 @@ ghost use Rattle.ix_tcpin.specs.Heads.{
 };
 
 use crate::numbers::number;
-use ix_base::SegHead;
-use ix_tcpdef::{ACK, BEHIND_HEADER, BEHIND_SYN, Cfg, RST, SYN, Tcb};
+use ix_base::{ACK, RST, SYN, SegHead};
+use ix_tcpdef::{BEHIND_HEADER, BEHIND_SYN, Cfg, Tcb};
 
 /// The window that is offered to the peer.
 pub fn window(cfg: &Cfg, tcb: &Tcb) -> u16

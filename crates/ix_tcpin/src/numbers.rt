@@ -1,18 +1,8 @@
 // Sequence numbers modulo 2^32, flags and ticks.
 ghost use Rattle.std.specs.Prelude.{◌≡◌, ◌<◌, ◌≤◌, ◌^◌, ◌-ℤ◌, ◌≤ℤ◌, ◌<ℤ◌, pos};
-ghost use Rattle.ix_tcpdef.specs.Numbers.{
-  number as number_of,
-  ahead as ahead_of,
-  offset as offset_of,
-  is_past as past_test,
-  is_at_or_past as at_or_past_test,
-  past_of,
-  behind_of,
-  is_next as next_test,
-  lies_in as in_test,
-  has_flag as flag_in,
-  later as later_of,
-};
+ghost use Rattle.ix_base.specs.Sequence.{number as number_of, ahead as ahead_of, offset as offset_of, is_past as past_test, is_at_or_past as at_or_past_test, past_of, behind_of, is_next as next_test, lies_in as in_test};
+ghost use Rattle.ix_base.specs.Flags.{has_flag as flag_in};
+ghost use Rattle.ix_tcpdef.specs.Ticks.{later as later_of};
 
 /// The sequence number of a position.
 pub fn number(start: u32, position: u32) -> u32

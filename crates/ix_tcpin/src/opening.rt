@@ -14,8 +14,8 @@ use crate::heads::{reset_head, syn_ack_head};
 use crate::numbers::{has_flag, later, number};
 use crate::verdict::Verdict;
 use crate::words::{announce, end, initial_window};
-use ix_base::SegHead;
-use ix_tcpdef::{ACK, Cfg, RST, SYN, State, Tcb, Told};
+use ix_base::{ACK, RST, SYN, SegHead};
+use ix_tcpdef::{Cfg, State, Tcb, Told};
 
 /// The largest body of a segment to a peer that has no option (RFC 9293, section 3.7.1).
 const DEFAULT_MSS: u16 = 536;

@@ -1,6 +1,6 @@
 use super::{Take, arrive};
-use ix_base::{Flow, SegHead};
-use ix_tcpdef::{ACK, BEHIND_HEADER, BEHIND_SYN, Cfg, SYN, State, unopened};
+use ix_base::{ACK, Flow, SYN, SegHead};
+use ix_tcpdef::{BEHIND_HEADER, BEHIND_SYN, Cfg, State, unopened};
 
 const FLOW: Flow = Flow {
     remote: 0x0a00_0001,

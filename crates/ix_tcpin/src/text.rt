@@ -30,8 +30,8 @@ use crate::numbers::{ahead, behind, has_flag, is_next, is_past, later, past};
 use crate::verdict::{HeldUse, Take, Uses, Verdict, drop_kept, keep};
 use crate::words::tell;
 use arrayvec::ArrayVec;
-use ix_base::SegHead;
-use ix_tcpdef::{Cfg, FIN, HeldHead, State, Tcb, Told};
+use ix_base::{FIN, SegHead};
+use ix_tcpdef::{Cfg, HeldHead, State, Tcb, Told};
 
 /// How many segments are held out of order.
 const MOST_HELD: usize = 8;

@@ -3,7 +3,8 @@ use Rattle.std.proofs.Common.{◌≡◌, ℕ, ◌+◌, ◌-◌, ◌%◌, ◌^◌
 use Rattle.std.specs.Prelude.{nat_lt, nat_le, ◌&&◌, not, Option, Some, None}
 use Rattle.std.proofs.lemmas.Bool.{cases_Bool}
 use Rattle.std.proofs.lemmas.Grind.{common_steps}
-use Rattle.ix_tcpdef.specs.Numbers.{number, later}
+use Rattle.ix_base.specs.Sequence.{number}
+use Rattle.ix_tcpdef.specs.Ticks.{later}
 use Rattle.ix_tcpdef.specs.Connection.{is_closed, is_syn_sent, is_syn_received, is_time_wait, on, gives, tells, ended}
 use Rattle.ix_tcpdef.specs.Frames.{plain_frame}
 use Rattle.ix_tcpdef.specs.Needs.{carries}
@@ -18,7 +19,7 @@ use Rattle.ix_tcpdef.specs.declared.types.Job.{Job}
 use Rattle.ix_tcpdef.specs.declared.types.Input.TheVariants as inputs
 use Rattle.ix_tcpdef.specs.declared.types.Output.TheVariants as outputs
 use Rattle.ix_tcpdef.specs.declared.types.Told.TheVariants as told
-use Rattle.ix_tcpdef.specs.declared.types.TheConstants.{ACK}
+use Rattle.ix_base.specs.declared.segment.TheConstants.{ACK}
 use Rattle.ix_tcpdef.specs.Stands.{tcb_of, send_queue, HasOpened}
 use Rattle.ix_tcpout.specs.Heads.{again_in}
 use Rattle.ix_tcpout.specs.Given.{frame_of, outputs_of, has_ended, start}

@@ -4,7 +4,8 @@ use Rattle.std.specs.Prelude.{nat_lt, ◌&&◌, ◌||◌, ◌==◌, not, min, ma
 use Rattle.std.proofs.lemmas.Bool.{cases_Bool, cond_both}
 use Rattle.std.proofs.lemmas.List.{map-append, length-map, take_min, drop-drop}
 use Rattle.std.proofs.lemmas.Grind.{common_steps}
-use Rattle.ix_tcpdef.specs.Numbers.{number, later}
+use Rattle.ix_base.specs.Sequence.{number}
+use Rattle.ix_tcpdef.specs.Ticks.{later}
 use Rattle.ix_tcpdef.specs.Connection.{queued, is_syn_sent, on, gives}
 use Rattle.ix_tcpdef.specs.Frames.{fin_frame, ack_frame}
 use Rattle.ix_tcpdef.specs.Needs.{carries}
@@ -17,7 +18,7 @@ use Rattle.ix_tcpdef.specs.declared.types.Connection.{Connection}
 use Rattle.ix_tcpdef.specs.declared.types.Job.{Job}
 use Rattle.ix_tcpdef.specs.declared.types.Output.{Output}
 use Rattle.ix_tcpdef.specs.declared.types.Tcb.{Tcb}
-use Rattle.ix_tcpdef.specs.declared.types.TheConstants.{ACK, FIN}
+use Rattle.ix_base.specs.declared.segment.TheConstants.{ACK, FIN}
 use Rattle.ix_tcpdef.specs.Stands.{tcb_of, send_queue}
 use Rattle.ix_tcpdef.proofs.NumberLemmas.{counts_ahead, goes_on}
 use Rattle.ix_tcpout.specs.declared.outs.OutSeg.{OutSeg}

@@ -1,6 +1,6 @@
 -- What a connection does when its timer expires, over numbers.
 use Rattle.std.specs.Prelude.{ℕ, ◌+◌, ◌-◌, ◌*◌, ◌/◌, ◌%◌, ◌^◌, true, false, nat_le, ◌&&◌, ◌==◌, not, if◌then◌else◌, [], ◌∷◌, min, max, Option, Some, None}
-use Rattle.ix_tcpdef.specs.Numbers.{later}
+use Rattle.ix_tcpdef.specs.Ticks.{later}
 use Rattle.ix_tcpdef.specs.Connection.{is_time_wait}
 use Rattle.ix_tcpdef.specs.Flush.{backed_off}
 use Rattle.ix_tcpdef.specs.declared.types.Cfg.{Cfg}
@@ -9,7 +9,7 @@ use Rattle.ix_tcpdef.specs.declared.types.State.TheVariants as st
 use Rattle.ix_tcpdef.specs.declared.types.Tcb.{Tcb}
 use Rattle.ix_tcpdef.specs.declared.types.Told.{Told}
 use Rattle.ix_tcpdef.specs.declared.types.Told.TheVariants as told
-use Rattle.ix_tcpdef.specs.declared.types.TheConstants.{ACK}
+use Rattle.ix_base.specs.declared.segment.TheConstants.{ACK}
 use Rattle.ix_tcpout.specs.declared.outs.OutSeg.{OutSeg}
 use Rattle.ix_tcpout.specs.declared.outs.Outs.{Outs}
 use Rattle.ix_tcpout.specs.Heads.{bare, again_in}

@@ -1,12 +1,13 @@
 -- Segments over numbers: heads, and ranges of the send queue.
 use Rattle.std.specs.Prelude.{ℕ, ◌+◌, ◌-◌, ◌%◌, ◌^◌, ◌==◌, min, if◌then◌else◌, None, Some}
 use Rattle.ix_base.specs.declared.segment.SegHead.{SegHead}
-use Rattle.ix_tcpdef.specs.Numbers.{number, ahead}
+use Rattle.ix_base.specs.Sequence.{number, ahead}
 use Rattle.ix_tcpdef.specs.declared.types.Cfg.{Cfg}
 use Rattle.ix_tcpdef.specs.declared.types.State.{State}
 use Rattle.ix_tcpdef.specs.declared.types.State.TheVariants as st
 use Rattle.ix_tcpdef.specs.declared.types.Tcb.{Tcb}
-use Rattle.ix_tcpdef.specs.declared.types.TheConstants.{ACK, FIN, PSH, SYN, BEHIND_HEADER, BEHIND_SYN}
+use Rattle.ix_base.specs.declared.segment.TheConstants.{ACK, FIN, PSH, SYN}
+use Rattle.ix_tcpdef.specs.declared.types.TheConstants.{BEHIND_HEADER, BEHIND_SYN}
 use Rattle.ix_tcpout.specs.declared.outs.OutSeg.{OutSeg}
 
 -- the head of a segment that acknowledges what came

@@ -1,10 +1,11 @@
 -- What a connection sends at the end of a cycle, over numbers, part by part.
 use Rattle.std.specs.Prelude.{ℕ, zero, suc, ◌+◌, ◌-◌, ◌%◌, ◌^◌, true, false, nat_lt, ◌&&◌, ◌||◌, ◌==◌, not, if◌then◌else◌, List, [], ◌∷◌, ◌++◌, length, min, Some, is_none}
-use Rattle.ix_tcpdef.specs.Numbers.{ahead, later}
+use Rattle.ix_base.specs.Sequence.{ahead}
+use Rattle.ix_tcpdef.specs.Ticks.{later}
 use Rattle.ix_tcpdef.specs.Flush.{resends, sends}
 use Rattle.ix_tcpdef.specs.declared.types.Cfg.{Cfg}
 use Rattle.ix_tcpdef.specs.declared.types.Tcb.{Tcb}
-use Rattle.ix_tcpdef.specs.declared.types.TheConstants.{ACK, FIN}
+use Rattle.ix_base.specs.declared.segment.TheConstants.{ACK, FIN}
 use Rattle.ix_tcpout.specs.declared.outs.OutSeg.{OutSeg}
 use Rattle.ix_tcpout.specs.Heads.{bare, bytes, again_in}
 

@@ -1,6 +1,6 @@
 // Ticks.
 ghost use Rattle.std.specs.Prelude.{◌≡◌};
-ghost use Rattle.ix_tcpdef.specs.Numbers.{later as later_of};
+ghost use Rattle.ix_tcpdef.specs.Ticks.{later as later_of};
 ghost use Rattle.ix_tcpdef.specs.Step.{is_alive as alive_test};
 
 use ix_tcpdef::State;

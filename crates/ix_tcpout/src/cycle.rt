@@ -28,7 +28,8 @@ use crate::heads::{bare, bytes};
 use crate::outs::{Entries, Outs};
 use crate::resend::again;
 use arrayvec::ArrayVec;
-use ix_tcpdef::{ACK, Cfg, FIN, State, Tcb};
+use ix_base::{ACK, FIN};
+use ix_tcpdef::{Cfg, State, Tcb};
 
 /// How many positions are in flight.
 pub fn flight(tcb: &Tcb) -> u32

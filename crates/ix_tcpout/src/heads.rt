@@ -1,6 +1,6 @@
 // Segments over numbers.
 ghost use Rattle.std.specs.Prelude.{◌≡◌, ◌<◌, ◌+◌, ◌-◌, ◌^◌};
-ghost use Rattle.ix_tcpdef.specs.Numbers.{number as number_of};
+ghost use Rattle.ix_base.specs.Sequence.{number as number_of};
 ghost use Rattle.ix_tcpout.specs.Heads.{
   bare as bare_of,
   bytes as bytes_of,
@@ -9,8 +9,8 @@ ghost use Rattle.ix_tcpout.specs.Heads.{
 };
 
 use crate::outs::OutSeg;
-use ix_base::SegHead;
-use ix_tcpdef::{ACK, BEHIND_HEADER, BEHIND_SYN, Cfg, PSH, SYN, Tcb};
+use ix_base::{ACK, PSH, SYN, SegHead};
+use ix_tcpdef::{BEHIND_HEADER, BEHIND_SYN, Cfg, Tcb};
 
 /// The sequence number of a position.
 fn number(start: u32, position: u32) -> u32

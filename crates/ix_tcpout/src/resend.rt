@@ -4,7 +4,8 @@ ghost use Rattle.ix_tcpout.specs.Heads.{first_again as first_again_of, again_in,
 
 use crate::heads::{bare, bytes, syn, syn_ack};
 use crate::outs::OutSeg;
-use ix_tcpdef::{ACK, Cfg, FIN, State, Tcb};
+use ix_base::{ACK, FIN};
+use ix_tcpdef::{Cfg, State, Tcb};
 
 /// How many bytes were sent and are not acknowledged.
 fn sent_bytes(tcb: &Tcb) -> u32

@@ -2,8 +2,8 @@ ghost use Rattle.std.specs.Prelude.{◌≤◌};
 ghost use Rattle.ix_tcpdef.specs.Sound.{FitsPeer};
 
 use super::{expire, flush};
-use ix_base::Flow;
-use ix_tcpdef::{ACK, Cfg, FIN, PSH, State, Tcb, Told, unopened};
+use ix_base::{ACK, FIN, Flow, PSH};
+use ix_tcpdef::{Cfg, State, Tcb, Told, unopened};
 
 const CFG: Cfg = Cfg {
     window: 1000,

@@ -16,7 +16,8 @@ use crate::heads::bare;
 use crate::outs::Outs;
 use crate::resend::again;
 use arrayvec::ArrayVec;
-use ix_tcpdef::{ACK, Cfg, State, Tcb, Told};
+use ix_base::{ACK};
+use ix_tcpdef::{Cfg, State, Tcb, Told};
 
 /// No timeout is longer.
 const LONGEST_WAIT: u32 = 60_000;

@@ -1,5 +1,5 @@
 use Rattle.std.proofs.Common.{arith}
-use Rattle.ix_ip.proofs.SumLaws.{next_word, last_word, no_word}
+use Rattle.ix_ip.specs.SumLaws.{next_word, last_word, no_word}
 use Rattle.ix_ip.proofs.sum.ones_sum.Goals as goal
 
 pub loop-rest-preserved : goal.loop-rest-preserved

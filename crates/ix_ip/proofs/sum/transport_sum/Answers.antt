@@ -1,6 +1,6 @@
 use Rattle.std.proofs.Common.{◌+◌, ◌-◌, ℕ, length, ap, ◌∙◌}
 use Rattle.ix_ip.specs.Sum.{carried, word_sum}
-use Rattle.ix_ip.proofs.SumLaws.{carried-pseudo}
+use Rattle.ix_ip.specs.SumLaws.{carried-pseudo}
 use Rattle.ix_ip.proofs.sum.transport_sum.Goals as goal
 
 pub returns : goal.returns

@@ -10,4 +10,4 @@ with_fin nxt given false h = omega arith
 pub returns-clause-within : goal.returns-clause-within
 returns-clause-within c =
     subst (λ (w : Connection). c.self.inside.connection.nxt ≤ length w.sent + 2) c.self.view_is
-    (with_fin _ _ c.self.inside.connection.fin_sent c.self.invariant.sender.within)
+    (with_fin _ _ c.self.inside.connection.fin_sent c.self.invariant.sound.sender.within)

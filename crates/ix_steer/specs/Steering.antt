@@ -1,0 +1,18 @@
+-- The flow group of a frame.
+use Rattle.std.specs.Prelude.{◌≡◌, ℕ, List, Bool, Ok}
+use Rattle.ix_base.specs.declared.frame.Disposition.{Disposition}
+use Rattle.ix_base.specs.declared.frame.Local.{Local}
+use Rattle.ix_base.specs.declared.segment.Seg.{Seg}
+use Rattle.ix_hash.specs.Group.{group_of_flow, group_of_named}
+use Rattle.ix_ip.specs.Packet.{Packet}
+use Rattle.ix_seg.specs.Frame.{flow_of_frame, segment_of_frame}
+
+-- the group of the flow that a frame names, and group 0 where it names none
+abbrev pub group_of_frame : List ℕ → ℕ
+group_of_frame frame = group_of_named (flow_of_frame frame)
+
+-- A frame that is a segment is of the group of its flow.
+abbrev pub SegmentsHaveTheirFlowsGroup : Type 0
+SegmentsHaveTheirFlowsGroup =
+    (other : Packet → Disposition) (local : Local) (check : Bool) (frame : List ℕ) (s : Seg) → segment_of_frame other local check frame ≡ Ok s
+    → group_of_frame frame ≡ group_of_flow s.head.flow
