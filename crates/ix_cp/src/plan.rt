@@ -7,10 +7,12 @@ use crate::places::Places;
 use ix_base::{CoreId, GroupId, NoMemory};
 use std::alloc::Global;
 
-/// One move of a plan: the place, which is a flow group or a class of flow groups, and the core that it goes to.
+/// One move of a plan.
 #[derive(Clone, Copy, Debug, PartialEq, Eq)]
 pub struct PlanMove {
+    /// The place, which is a flow group or a class of flow groups.
     pub group: GroupId,
+    /// The core that the place goes to.
     pub to: CoreId,
 }
 
