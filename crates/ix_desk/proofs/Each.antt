@@ -79,7 +79,7 @@ leave-most leaves most b [] = omega arith
 leave-most leaves most b (x ∷ xs) = let rest = leave-most leaves most (leaves b x) xs in let first = most b x in omega arith
 
 module _ {U I : Type 0} (counted : I → Bool) where
-  current-most : (b : ℕ) (p : Option (Piece U I)) → current_leaves counted b p ≤ b
+  pub current-most : (b : ℕ) (p : Option (Piece U I)) → current_leaves counted b p ≤ b
   current-most b None = omega arith
   current-most b (Some p) = omega arith
 

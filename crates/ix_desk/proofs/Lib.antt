@@ -7,3 +7,4 @@ pub mod Each
 pub mod Home
 pub mod Lends
 pub mod Order
+pub mod Work

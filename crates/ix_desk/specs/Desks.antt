@@ -1,9 +1,10 @@
 -- All desks of a core.
 use Rattle.std.specs.Prelude.{◌≡◌, ℕ, ◌+◌, ◌<◌, ◌==◌, Bool, not, ◌&&◌, if◌then◌else◌, nat_lt, List, [], ◌∷◌, Some, None, slice_index_or, slice_set}
+use Rattle.std.specs.List.{list_any}
 use Rattle.ix_base.specs.declared.id.GroupId.{GroupId}
 use Rattle.ix_desk.specs.declared.unit.DeskItem.{DeskItem}
 use Rattle.ix_desk.specs.Views.{CutPiece, Group, View}
-use Rattle.ix_desk.specs.Groups.{fits, waits, empty, at_home, done_of, shipped}
+use Rattle.ix_desk.specs.Groups.{fits, waits, empty, at_home, done_of, shipped, group_has_work}
 use Rattle.ix_desk.specs.Pieces.{joined}
 use Rattle.ix_desk.specs.Tenures.{has_arrived}
 
@@ -23,6 +24,10 @@ module _ {U I : Type 0} where
   -- a unit of this group and tenure that goes to this core is awaited
   abbrev pub welcome_at : View U I → ℕ → ℕ → ℕ → Bool
   welcome_at v g k to = (nat_lt g 512 && (to == v.core)) && (nat_lt 0 k && not (has_arrived k (group_at v g).arrived))
+
+  -- something is to be stepped at a desk whose unit is here
+  abbrev pub has_work : View U I → Bool
+  has_work v = list_any group_has_work v.groups
 
   -- what waits, group after group
   abbrev pub groups_wait : View U I → List I

@@ -1,10 +1,11 @@
 -- What the calls make of a group.
 use Rattle.std.specs.Prelude.{◌≡◌, ◌<◌, ℕ, ◌==◌, Bool, true, false, not, ◌&&◌, ◌||◌, if◌then◌else◌, nat_lt, List, [], ◌∷◌, ◌++◌, Option, Some, None, is_some, is_none, length, slice_index_or, slice_set}
+use Rattle.std.specs.List.{list_any}
 use Rattle.ix_base.specs.declared.id.CoreId.{CoreId}
 use Rattle.ix_desk.specs.declared.unit.DeskItem.{DeskItem}
 use Rattle.ix_desk.specs.declared.unit.DeskItem.TheVariants.{Work, Tag, Cut, Start}
 use Rattle.ix_desk.specs.Views.{Piece, CutPiece, Arrival, Group}
-use Rattle.ix_desk.specs.Pieces.{begun, with_item, with_tag, with_arrival, awaits, without_unit, with_unit, is_done, piece_waits, joined}
+use Rattle.ix_desk.specs.Pieces.{begun, with_item, with_tag, with_arrival, awaits, without_unit, with_unit, is_done, piece_has_work, piece_waits, joined}
 
 module _ {U I : Type 0} where
   abbrev pub is_untagged : Option (Piece U I) → Bool
@@ -144,6 +145,17 @@ module _ {U I : Type 0} where
   -- a group that gave it away
   abbrev pub shipped : Group U I → Group U I
   shipped g = record { cut = cut_but_done g.cut; current = g.current; early = g.early; arrived = g.arrived; last = g.last }
+
+  abbrev pub cut_has_work : CutPiece U I → Bool
+  cut_has_work c = piece_has_work c.piece
+
+  abbrev pub current_has_work : Option (Piece U I) → Bool
+  current_has_work None = false
+  current_has_work (Some p) = piece_has_work p
+
+  -- something of the group is to be stepped here
+  abbrev pub group_has_work : Group U I → Bool
+  group_has_work g = list_any cut_has_work g.cut || current_has_work g.current
 
   -- the items that wait: of each piece the remote queue before the local one, and then what came with units whose piece hasn't begun
   abbrev pub cut_waits : List (CutPiece U I) → List I

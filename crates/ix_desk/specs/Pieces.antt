@@ -1,5 +1,5 @@
 -- What the calls make of a piece.
-use Rattle.std.specs.Prelude.{ℕ, ◌==◌, Bool, true, false, ◌&&◌, if◌then◌else◌, List, [], ◌∷◌, ◌++◌, Option, Some, None, is_some, is_none}
+use Rattle.std.specs.Prelude.{ℕ, ◌==◌, Bool, true, false, not, ◌&&◌, if◌then◌else◌, List, [], ◌∷◌, ◌++◌, Option, Some, None, is_some, is_none}
 use Rattle.ix_desk.specs.Views.{Piece, Arrival}
 
 abbrev pub is_nil : {X : Type 0} → List X → Bool
@@ -56,3 +56,7 @@ module _ {U I : Type 0} where
   -- the unit is here, and all that was to be stepped is
   abbrev pub is_done : Piece U I → Bool
   is_done p = is_some p.unit && (is_nil p.remote && is_nil p.local)
+
+  -- something is to be stepped, and the unit that steps it is here
+  abbrev pub piece_has_work : Piece U I → Bool
+  piece_has_work p = is_some p.unit && not (is_nil (ready p))

@@ -1,5 +1,5 @@
 -- What work does: batches of items, each stepped at once, within a budget of items that count.
-use Rattle.std.specs.Prelude.{◌≡◌, ℕ, zero, suc, ◌-◌, Bool, if◌then◌else◌, List, [], ◌∷◌, ◌++◌, Option, Some, None, is_some, count_by, map}
+use Rattle.std.specs.Prelude.{◌≡◌, ℕ, zero, suc, ◌-◌, Bool, false, if◌then◌else◌, List, [], ◌∷◌, ◌++◌, Option, Some, None, is_some, count_by, map}
 use Rattle.ix_desk.specs.Views.{Piece, CutPiece, Group, View}
 use Rattle.ix_desk.specs.Pieces.{ready}
 
@@ -54,6 +54,8 @@ module _ {U I E : Type 0} (counted : I → Bool) (name : I → ℕ) (stepped : U
     pub behind : new.behind ≡ old.behind
     pub waited : ready old ≡ batch counted budget old ++ ready new
     pub unit : UnitStepped (batch counted budget old) old.unit new.unit
+    -- where the unit isn't here, nothing becomes of the remote queue
+    pub resting : is_some old.unit ≡ false → new.remote ≡ old.remote
 
   pub record CutWorked (budget : ℕ) (old new : CutPiece U I) : Type 0 where
     pub to : new.to ≡ old.to

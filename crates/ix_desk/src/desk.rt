@@ -31,7 +31,7 @@ impl<U, I> Model for Desk<U, I> {
 impl<U: Drop, I: Drop> Desk<U, I> {
     ghost use Rattle.std.specs.Prelude.{◌≡◌, ◌+◌, ◌<◌, ◌++◌, ◌∷◌, [], ℕ, true, false, length, is_some, Option, Some, None, OnOk, IfOk, IfErr, IfNone, slice_get};
     ghost use Rattle.std.specs.Option.{option_copied};
-    ghost use Rattle.ix_desk.specs.Pieces.{begun, with_item, with_tag, with_arrival, awaits, without_unit, with_unit, is_done, piece_waits};
+    ghost use Rattle.ix_desk.specs.Pieces.{begun, with_item, with_tag, with_arrival, awaits, without_unit, with_unit, is_done, piece_has_work, piece_waits};
     ghost use Rattle.std.specs.Option.{option_copied_mut};
     ghost use Rattle.std.specs.Borrow.{LendsIf, sem};
     ghost use Rattle.ix_desk.specs.contracts.desk.Desk.{the_row};
@@ -86,6 +86,7 @@ impl<U: Drop, I: Drop> Desk<U, I> {
         self.tagged = true;
     }
 
+    /// Whether the tag was taken.
     pub fn is_tagged(&self) -> bool
         ensures { result ≡ self.now.tagged }
     {
@@ -107,18 +108,21 @@ impl<U: Drop, I: Drop> Desk<U, I> {
         self.remote = VecDeque::from(queue.into_vec());
     }
 
+    /// Whether the unit is here.
     pub fn has_unit(&self) -> bool
         ensures { result ≡ is_some self.now.unit }
     {
         self.unit.is_some()
     }
 
+    /// The unit, if it is here.
     pub fn unit(&self) -> Option<&U>
         ensures { option_copied result ≡ self.now.unit }
     {
         self.unit.as_ref()
     }
 
+    /// The unit, to be changed in its place, if it is here.
     pub fn unit_mut(&mut self) -> Option<&mut U>
         ensures* writes_back { sem 𝓛 (LendsIf (the_row U.row I.row) U.row self.entry result (with_unit self.old) self.old) }
         ensures value { option_copied_mut result ≡ self.old.unit }
@@ -126,6 +130,7 @@ impl<U: Drop, I: Drop> Desk<U, I> {
         self.unit.as_mut()
     }
 
+    /// Takes the unit away.
     pub fn take_unit(&mut self) -> Option<U>
         ensures unit { result ≡ self.old.unit }
         ensures rest { self.new ≡ without_unit self.old }
@@ -139,6 +144,14 @@ impl<U: Drop, I: Drop> Desk<U, I> {
         ensures { result ≡ is_done self.now }
     {
         self.unit.is_some() && self.remote.is_empty() && self.local.is_empty()
+    }
+
+    /// Whether the unit is here and something is to be stepped.
+    #[tactic(auto, using(crate::proofs::Work::work_laws))]
+    pub fn has_work(&self) -> bool
+        ensures { result ≡ piece_has_work self.now }
+    {
+        self.unit.is_some() && !(self.remote.is_empty() && self.local.is_empty())
     }
 
     /// An item that waits, or how many more places it stands behind all of this desk.

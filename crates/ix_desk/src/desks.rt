@@ -5,18 +5,15 @@ ghost use Rattle.ix_desk.specs.Views.{Piece, CutPiece};
 ghost use Rattle.ix_desk.specs.Groups.{taken, landed, unit_of, untaken, changed, done_of, shipped, waits};
 ghost use Rattle.ix_desk.specs.Steps.{leave, group_leaves, AllWorked};
 ghost use Rattle.ix_desk.specs.Failures.{AllFailed};
-ghost use Rattle.ix_desk.specs.Desks.{group_at, with_group, fits_at, welcome_at, groups_wait, opened, Ships, NothingDone, SameOrder};
+ghost use Rattle.ix_desk.specs.Desks.{group_at, with_group, fits_at, welcome_at, groups_wait, opened, has_work, Ships, NothingDone, SameOrder};
 
 use crate::all_groups::{empty_groups, groups_waiting, seat_home, ship_first};
 use crate::group::GroupDesks;
 use crate::unit::{DeskItem, Shipment, Unit};
 use crate::working::work_groups;
-use ix_base::{Back, CoreId, GroupId, NoMemory};
+use ix_base::{Back, CoreId, FLOW_GROUPS, GroupId, NoMemory};
 use std::alloc::Global;
 use std::marker::Model;
-
-/// The number of flow groups.
-pub const GROUPS: usize = 512;
 
 /// The desks of a core: of each flow group the tenures whose pieces began here, the items that wait at them, and the unit while it is
 /// here. Group by group, the items of a tenure wait behind those that its unit brought along.
@@ -44,14 +41,27 @@ impl<U: Unit> Desks<U> {
     ghost use Rattle.std.specs.Borrow.{LendsIf, sem};
     ghost use Rattle.ix_desk.specs.contracts.desks.Desks.{the_row};
 
-    /// Whether this item comes next for this group, by the order of a ring.
-    pub fn fits(&self, g: GroupId, it: &DeskItem<U::Item>) -> bool
-        ensures { result ≡ fits_at self.now g.0 it.now }
+    // The place of a group's desks, where there is a group of this number.
+    fn place(&self, g: GroupId) -> Option<usize>
+        ensures some { IfSome result (λ place. (place ≡ g.0) × (g.0 < length self.now.groups)) }
+        ensures none { IfNone result (length self.now.groups ≤ g.0) }
+        ensures groups { length self.now.groups ≡ 512 }
     {
         let place = usize::from(g.0);
         if place >= self.groups.len() {
-            return false;
+            return None;
         }
+        Some(place)
+    }
+
+    /// Whether this item comes next for this group, by the order of a ring. There are 512 groups.
+    pub fn fits(&self, g: GroupId, it: &DeskItem<U::Item>) -> bool
+        ensures fits { result ≡ fits_at self.now g.0 it.now }
+        ensures groups { length self.now.groups ≡ 512 }
+    {
+        let Some(place) = self.place(g) else {
+            return false;
+        };
         let group = &self.groups[place];
         group.fits(it)
     }
@@ -74,8 +84,10 @@ impl<U: Unit> Desks<U> {
     pub fn welcomes(&self, s: &Shipment<U>) -> bool
         ensures { result ≡ welcome_at self.now s.now.group.0 s.now.tenure s.now.to.0 }
     {
-        let place = usize::from(s.group.0);
-        if place >= self.groups.len() || s.to != self.core || s.tenure == 0 {
+        let Some(place) = self.place(s.group) else {
+            return false;
+        };
+        if s.to != self.core || s.tenure == 0 {
             return false;
         }
         let group = &self.groups[place];
@@ -118,10 +130,9 @@ impl<U: Unit> Desks<U> {
     pub fn unit(&self, g: GroupId) -> Option<&U>
         ensures { option_copied result ≡ unit_of (group_at self.now g.0) }
     {
-        let place = usize::from(g.0);
-        if place >= self.groups.len() {
+        let Some(place) = self.place(g) else {
             return None;
-        }
+        };
         let group = &self.groups[place];
         group.unit()
     }
@@ -131,10 +142,9 @@ impl<U: Unit> Desks<U> {
         ensures* writes_back { sem 𝓛 (LendsIf (the_row U.row U.Item.row U.Env.row U.Unit) U.row self.entry result (λ u. with_group self.old g.0 (changed (group_at self.old g.0) u)) self.old) }
         ensures value { option_copied_mut result ≡ unit_of (group_at self.old g.0) }
     {
-        let place = usize::from(g.0);
-        if place >= self.groups.len() {
+        let Some(place) = self.place(g) else {
             return None;
-        }
+        };
         self.unit_mut_at(place)
     }
 
@@ -154,10 +164,9 @@ impl<U: Unit> Desks<U> {
         ensures rest { self.new ≡ with_group self.old g.0 (untaken (group_at self.old g.0)) }
         ensures none { IfNone result (self.new ≡ self.old) }
     {
-        let place = usize::from(g.0);
-        if place >= self.groups.len() {
+        let Some(place) = self.place(g) else {
             return None;
-        }
+        };
         let group = &mut self.groups[place];
         group.take_unit()
     }
@@ -170,6 +179,14 @@ impl<U: Unit> Desks<U> {
         groups_waiting(self.groups.as_slice(), i).ok()
     }
 
+    /// Whether something is to be stepped: an item that is ready at a desk whose unit is here, whether it counts or not. There are 512 groups.
+    pub fn has_work(&self) -> bool
+        ensures work { result ≡ has_work self.now }
+        ensures groups { length self.now.groups ≡ 512 }
+    {
+        self.groups.iter().any(|group| group.has_work())
+    }
+
     /// Steps items of the desks whose unit is here, remote queue first and none behind a tag, until so many that count are stepped or none
     /// is left. A desk's items go to one step. Answers the number of those that count.
     ///
@@ -180,6 +197,7 @@ impl<U: Unit> Desks<U> {
         ensures most { IfOk result (λ n. n ≤ max) }
         ensures count { IfOk result (λ n. n ≡ max - leave (group_leaves U.counted) max self.old.groups) }
         ensures worked { OnOk result (AllWorked U.counted U.name U.stepped U.advanced env.now self.old.core max self.old self.new) }
+        ensures done { IfOk result (λ n. n < max → has_work self.new ≡ false) }
         ensures err { OnErr result ((self.new.failed ≡ true) × (self.new.core ≡ self.old.core)) }
         ensures stopped { OnErr result ((self.old.failed ≡ false) → AllFailed U.counted U.name U.stepped U.advanced env.now self.old.core max self.old self.new) }
         ensures failed { self.old.failed ≡ true → IsErr result × (self.new ≡ self.old) }
@@ -227,7 +245,7 @@ impl<U: Unit> Desks<U> {
         ensures core { IfOk result (λ d. (d.core ≡ core.0) × (d.failed ≡ false)) }
         ensures groups { IfOk result (λ d. (g : ℕ) → group_at d g ≡ opened home.items g) }
     {
-        let mut groups = empty_groups(alloc, GROUPS)?;
+        let mut groups = empty_groups(alloc, FLOW_GROUPS)?;
         seat_home(alloc, &mut groups, home);
         Ok(Desks {
             core,

@@ -1,7 +1,8 @@
 // The desks of one group on this core.
 ghost use Rattle.std.specs.Prelude.{◌≡◌, ◌+◌, true, false, is_some, length, Some, IfSome, IfNone, IfOk, IfErr, slice_get};
+ghost use Rattle.std.specs.List.{list_any};
 ghost use Rattle.std.specs.Option.{option_copied};
-ghost use Rattle.ix_desk.specs.Groups.{arrival_of, arrivals_but, cut_awaits, cut_seated, current_awaits, current_seated, cut_unit, cut_untaken, cut_with, HasUnitAt, done_of, cut_but_done, cut_waits, current_waits, early_waits};
+ghost use Rattle.ix_desk.specs.Groups.{arrival_of, arrivals_but, cut_awaits, cut_seated, current_awaits, current_seated, cut_unit, cut_untaken, cut_with, HasUnitAt, done_of, cut_but_done, cut_has_work, current_has_work, cut_waits, current_waits, early_waits};
 
 use crate::desk::Desk;
 use crate::tenures::Tenures;
@@ -67,12 +68,13 @@ impl<U: Drop, I: Drop> GroupDesks<U, I> {
     ghost use Rattle.std.specs.Option.{option_copied};
     ghost use Rattle.ix_desk.specs.declared.unit.DeskItem.TheVariants.{Work, Tag, Cut, Start};
     ghost use Rattle.ix_desk.specs.Tenures.{has_arrived};
-    ghost use Rattle.ix_desk.specs.Groups.{fits, taken, landed, unit_of, untaken, changed, current_unit, current_with, cut_piece_with, no_piece, done_of, shipped, waits, empty, at_home};
+    ghost use Rattle.ix_desk.specs.Groups.{fits, taken, landed, unit_of, untaken, changed, current_unit, current_with, cut_piece_with, no_piece, done_of, shipped, group_has_work, waits, empty, at_home};
     ghost use Rattle.std.specs.Prelude.{◌<◌, slice_set, slice_index_or};
     ghost use Rattle.std.specs.Option.{option_copied_mut};
     ghost use Rattle.std.specs.Borrow.{LendsIf, sem};
     ghost use Rattle.ix_desk.specs.contracts.group.GroupDesks.{the_row};
 
+    /// A group of which no piece began and no unit arrived.
     pub fn new(alloc: Global) -> GroupDesks<U, I>
         ensures { result ≡ empty }
     {
@@ -294,6 +296,13 @@ impl<U: Drop, I: Drop> GroupDesks<U, I> {
         take_done(&mut self.cut)
     }
 
+    /// Whether something of the group is to be stepped here.
+    pub fn has_work(&self) -> bool
+        ensures { result ≡ group_has_work self.now }
+    {
+        cut_has_work(self.cut.as_slice()) || current_has_work(&self.current)
+    }
+
     /// An item that waits, or how many more places it stands behind all of this group.
     pub fn waiting(&self, i: usize) -> Result<&I, usize>
         ensures found { IfOk result (λ x. slice_get (waits self.now) i ≡ Some x.now) }
@@ -379,6 +388,21 @@ impl<U: Unit> GroupDesks<U, U::Item> {
             Some(desk) => desk.work(alloc, env, core, left),
             None => Ok(left),
         }
+    }
+}
+
+fn cut_has_work<U: Drop, I: Drop>(cut: &[CutDesk<U, I>]) -> bool
+    ensures { result ≡ list_any cut_has_work cut.now }
+{
+    cut.iter().any(|here| here.desk.has_work())
+}
+
+fn current_has_work<U: Drop, I: Drop>(current: &Option<Desk<U, I>>) -> bool
+    ensures { result ≡ current_has_work current.now }
+{
+    match current {
+        Some(desk) => desk.has_work(),
+        None => false,
     }
 }
 

@@ -27,6 +27,7 @@ impl Tenures {
     ghost use Rattle.std.specs.Prelude.{◌≡◌, [], ◌∷◌, ◌++◌, OnOk, OnErr};
     ghost use Rattle.ix_desk.specs.Tenures.{has_arrived};
 
+    /// No tenure.
     pub fn new(alloc: Global) -> Tenures
         ensures { result ≡ [] }
     {
@@ -36,6 +37,7 @@ impl Tenures {
         }
     }
 
+    /// Whether this tenure is among them.
     pub fn contains(&self, tenure: u32) -> bool
         ensures { result ≡ has_arrived tenure self.now }
     {
@@ -45,6 +47,7 @@ impl Tenures {
         self.numbers.as_slice().contains(&tenure)
     }
 
+    /// Puts one more at the end, or changes nothing for want of memory.
     pub fn add(&mut self, tenure: u32) -> Result<(), NoMemory>
         ensures ok { OnOk result (self.new ≡ self.old ++ tenure ∷ []) }
         ensures err { OnErr result (self.new ≡ self.old) }

@@ -8,6 +8,7 @@ use ix_base::{CoreId, GroupId, List, NoMemory};
 pub trait Unit: Drop {
     ghost use Rattle.std.specs.Prelude.{◌≡◌, ℕ, ◌++◌, List, Bool, map, OnOk};
 
+    /// What it steps.
     type Item: Drop;
 
     /// What all units read.
@@ -44,18 +45,26 @@ pub trait Unit: Drop {
 /// beginning of a piece.
 #[derive(Drop)]
 pub enum DeskItem<I> {
+    /// An item of the group's piece.
     Work(I),
+    /// What follows is stepped by the next tenure.
     Tag,
+    /// The piece ends, and the unit goes to this core.
     Cut { to: CoreId },
+    /// The piece of this tenure begins.
     Start { tenure: u32 },
 }
 
 /// A unit under way to its next tenure, with the items that the next core steps first.
 #[derive(Drop)]
 pub struct Shipment<U: Unit> {
+    /// The flow group that the unit is.
     pub group: GroupId,
+    /// The number of its next tenure.
     pub tenure: u32,
+    /// The core of that tenure.
     pub to: CoreId,
     pub unit: U,
+    /// Its remote queue: what the old core had behind the tag, in order.
     pub queue: List<U::Item>,
 }

@@ -3,12 +3,9 @@ ghost use Rattle.std.specs.Prelude.{◌≡◌, ◌≤◌, [], length, IfOk};
 ghost use Rattle.ix_mbuf.specs.Buffers.{Buffer, next_use};
 
 use crate::name::Name;
-use ix_base::{BufId, NoMemory};
+use ix_base::{BUFFER_BYTES, BufId, NoMemory};
 use std::alloc::Global;
 use std::marker::Model;
-
-/// The number of bytes that a buffer has room for.
-const BUFFER_BYTES: usize = 2048;
 
 /// A buffer of 2,048 bytes, of which those of one frame are filled. It is moved and never copied, so that it has one owner at each time.
 /// It may be dropped only because a play can end for want of memory.

@@ -8,8 +8,11 @@ use ix_run::{Actor, Turn};
 /// Puts a list, item by item.
 #[derive(Drop)]
 pub struct Sender {
+    /// The end that it puts into.
     pub put: PutEnd<u32>,
+    /// The list.
     pub items: Vec<u32>,
+    /// The place of the item that it puts next.
     pub next: usize,
     pub ghost within: { next ≤ vec_len items },
 }
@@ -17,15 +20,20 @@ pub struct Sender {
 /// Takes what comes, and keeps it in order.
 #[derive(Drop)]
 pub struct Receiver {
+    /// The end that it takes from.
     pub take: TakeEnd<u32>,
+    /// What it took, in order.
     pub got: Vec<u32>,
+    /// Whether one of its turns found no memory.
     pub failed: bool,
 }
 
 /// One of the two.
 #[derive(Drop)]
 pub enum Party {
+    /// The one that puts.
     Sender(Sender),
+    /// The one that takes.
     Receiver(Receiver),
 }
 

@@ -36,12 +36,14 @@ impl TurnLog {
         })
     }
 
+    /// The turns so far, in order.
     pub fn as_slice(&self) -> &[(GroupId, CoreId)]
         ensures { result.now ≡ self.now.turns }
     {
         self.turns.as_slice()
     }
 
+    /// The number of turns so far.
     pub fn len(&self) -> usize
         ensures { result ≡ length self.now.turns }
     {

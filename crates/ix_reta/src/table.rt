@@ -3,14 +3,16 @@ ghost use Rattle.std.specs.Prelude.{◌<◌, [], IfOk};
 ghost use Rattle.ix_reta.specs.Rows.{AreRows};
 
 use crate::log::TurnLog;
-use ix_base::{CoreId, GroupId, NoMemory};
+use ix_base::{CoreId, FLOW_GROUPS, GroupId, NoMemory};
 use std::alloc::Global;
 use std::marker::Model;
 
 /// A row of the table: the core of a flow group, and the number of its turns so far.
 #[derive(Clone, Copy, Debug, PartialEq, Eq)]
 pub struct Row {
+    /// The core that the group is on.
     pub core: CoreId,
+    /// The number of its turns so far.
     pub tenure: u32,
 }
 
@@ -98,7 +100,7 @@ fn opening_rows(alloc: Global, live: u8) -> Result<Vec<Row>, NoMemory>
     requires { 0 < live }
     ensures { IfOk result (λ v. AreRows live [] v.items) }
 {
-    let mut rows = Vec::with_capacity(alloc, 512)?;
+    let mut rows = Vec::with_capacity(alloc, FLOW_GROUPS)?;
     for group in 0..512u16 {
         rows.push(Row {
             core: CoreId((group % 128 % live as u16) as u8),

@@ -8,6 +8,7 @@ pub enum Turn {
     Ended { frames: u16 },
     /// There was nothing to do.
     Idle,
+    /// Something was done, and more may follow.
     Worked { frames: u16 },
 }
 

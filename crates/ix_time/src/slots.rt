@@ -30,18 +30,21 @@ impl Slot {
         }
     }
 
+    /// The entries.
     pub fn entries(&self) -> &[(u32, u64)]
         ensures { result.now ≡ self.now }
     {
         self.entries.as_slice()
     }
 
+    /// The number of entries.
     pub fn len(&self) -> usize
         ensures { result ≡ length self.now }
     {
         self.entries.len()
     }
 
+    /// Whether there is none.
     pub fn is_empty(&self) -> bool
         ensures { result ≡ (length self.now == 0) }
     {

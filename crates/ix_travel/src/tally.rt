@@ -8,15 +8,20 @@ use ix_desk::Unit;
 /// An item, by its number: a frame counts, a time doesn't.
 #[derive(Clone, Copy, Debug, PartialEq, Eq)]
 pub enum Thing {
+    /// A frame.
     Frame(u32),
+    /// A time.
     Time(u32),
 }
 
 /// The numbers that were stepped, each with its core. One of its steps finds no memory.
 #[derive(Drop)]
 pub struct Tally {
+    /// The numbers of the items, each with the core that stepped it.
     pub seen: Vec<(u32, u8)>,
+    /// How many steps were made.
     pub steps: u32,
+    /// The step that finds no memory, counted from 1; 0 for none.
     pub fails_at: u32,
 }
 

@@ -5,6 +5,7 @@ ghost use Rattle.ix_desk.specs.Desks.{group_at};
 use super::*;
 use ix_base::{CoreId, GroupId, List, NoMemory};
 use ix_desk::{DeskItem, Desks, Shipment};
+use ix_mbuf::Pool;
 use std::alloc::Global;
 use std::collections::VecDeque;
 use std::process::Abort;
@@ -78,6 +79,7 @@ fn a_frame_behind_the_tag(rt: HostRuntime) -> Result<(), Fail> {
     take(&rt, &mut new, DeskItem::Start { tenure: 1 })?;
     take(&rt, &mut new, DeskItem::Work(Thing::Frame(4)))?;
     take(&rt, &mut new, DeskItem::Work(Thing::Time(5)))?;
+    assert!(rt; !new.has_work());
     assert_eq!(rt; new.work(&(), 64), Ok(0), "the unit isn't here");
     let Some(s) = old.ship() else {
         return Err(Fail::from("no shipment"));
@@ -221,6 +223,55 @@ fn a_unit_is_taken_away(rt: HostRuntime) -> Result<(), Fail> {
     assert_eq!(rt; unit.fails_at, 7);
     assert!(rt; desks.unit(GROUP).is_none());
     Ok(())
+}
+
+// Three frames, one behind the tag: the holder has room for two of their buffers, wherever it is.
+#[test]
+fn buffers_travel_with_their_unit(rt: HostRuntime) -> Result<(), Fail> {
+    let alloc = rt.alloc();
+    let room = Room::new(2);
+    let mut pool = Pool::new(alloc, CoreId(0), 3)?;
+    let held = Vec::with_capacity(alloc, 8)?;
+    let unit = Holder {
+        seen: Vec::new(alloc),
+        held,
+        spent: Vec::new(alloc),
+    };
+    let mut units = Vec::new(alloc);
+    units.push((GROUP, unit))?;
+    let mut old = Desks::new(alloc, CoreId(0), units)?;
+    let mut new = Desks::new(alloc, CoreId(1), Vec::new(alloc))?;
+    for it in [
+        DeskItem::Work(frame(&mut pool, 0)?),
+        DeskItem::Tag,
+        DeskItem::Work(frame(&mut pool, 2)?),
+        DeskItem::Work(frame(&mut pool, 3)?),
+        DeskItem::Cut { to: CoreId(1) },
+    ] {
+        assert!(rt; old.fits(GROUP, &it));
+        old.item(GROUP, it)?;
+    }
+    assert!(rt; old.has_work());
+    assert_eq!(rt; old.work(&room, 64), Ok(1));
+    assert!(rt; !old.has_work(), "behind the tag");
+    let start = DeskItem::Start { tenure: 1 };
+    assert!(rt; new.fits(GROUP, &start));
+    new.item(GROUP, start)?;
+    let s = old.ship().ok_or("a shipment")?;
+    assert!(rt; new.welcomes(&s));
+    new.arrive(s)?;
+    assert_eq!(rt; new.work(&room, 64), Ok(2));
+    let unit = new.unit(GROUP).ok_or("the unit")?;
+    let held: Vec<u32> = unit.held.iter().map(|buf| buf.id().slot).collect(alloc)?;
+    let spent: Vec<u32> = unit.spent.iter().map(|buf| buf.id().slot).collect(alloc)?;
+    assert_eq!(rt; (held.as_slice(), spent.as_slice()), ([2, 1].as_slice(), [0].as_slice()));
+    Ok(())
+}
+
+// A frame of this number, in the next free buffer: the last slot first.
+fn frame(pool: &mut Pool, w: u32) -> Result<Load, Fail> {
+    let buf = pool.take().ok_or("a buffer")?;
+    Ok(Load::Frame { w, buf })
 }
 
 // A core: its desks, its ring, and the shipments on their way to it.

@@ -11,5 +11,5 @@ pub returns-clause-none : goal.returns-clause-none
 returns-clause-none g c =
     let v : View g.row.U.Denot g.row.U-Item.Denot = record { core = c.self.inside.core.0; failed = c.self.inside.failed; groups = c.self.inside.groups.items } in
     rw (← c.self.view_is) (if_none-weaker c.take_unit.result
-    (λ same. keeps v c.from-place.result c.args.g.0 c.index_mut-group.result.now c.take_unit.new.self c.index_mut-group.ensures.value same)
+    (λ same. keeps v c.in-Some.place c.args.g.0 c.index_mut-group.result.now c.take_unit.new.self c.index_mut-group.ensures.value same)
     c.take_unit.ensures.none)

@@ -1,0 +1,10 @@
+pub mod Joining
+pub mod Appends
+pub mod Only
+pub mod Keeps
+pub mod Places
+pub mod Law
+pub mod Heard
+pub mod Members
+pub mod Cores
+pub mod Worked
