@@ -1,9 +1,8 @@
 -- What two histories that follow one another say together.
-use Rattle.std.proofs.Common.{◌≡◌, ℕ, Bool, List, [], ◌∷◌, ◌++◌, refl, ap, ◌∙◌, sym, arith}
-use Rattle.ix_desk.specs.Views.{View}
-use Rattle.ix_history.specs.Events.{RingItem, Parcel, Event, took, came, worked, gone, lent, Happened}
+use Rattle.std.proofs.Common.{◌≡◌, ℕ, Bool, List, [], ◌∷◌, ◌++◌, refl, arith}
+use Rattle.ix_history.specs.Events.{Event, took, came, worked, gone, lent, Happened}
 use Rattle.ix_history.specs.Items.{taken_in, gone_to, came_from, handed_out}
-use Rattle.ix_history.specs.Run.{landed_in, shipped_in, Run}
+use Rattle.ix_history.specs.Run.{landed_in, shipped_in}
 use Rattle.ix_history.specs.Laws.{SayTogether, RunsGoOn}
 use Rattle.ix_history.proofs.Joining.{runs-join}
 

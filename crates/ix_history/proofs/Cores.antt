@@ -16,10 +16,10 @@ use Rattle.ix_order.specs.Ends.{opened as open_after, sent, PiecesEnd}
 use Rattle.ix_history.specs.Runs.{Runs}
 use Rattle.ix_history.specs.Events.{RingItem, Parcel, Event, part_of, arrival_of, parcel}
 use Rattle.ix_history.specs.Pieces.{Account, account, no_news, home_news, cut_at, current_at, early_at, Deed, batch, loaned, items_in, Did, Chain, Done, Lived, WasCut, Went, Stands, unbegun, opened, was_cut, over}
-use Rattle.ix_history.specs.Items.{taken_in, opens, told, items_part}
+use Rattle.ix_history.specs.Items.{taken_in, opens, told}
 use Rattle.ix_history.specs.Join.{In, IsIdle, Played, steps_in, tenure_part, tenure_queue, tenure_items, all_items, all_names, DidThere, Joined, NowhereElse}
 use Rattle.ix_history.proofs.Law.{piece-law}
-use Rattle.ix_history.proofs.Heard.{heard_of, hear, account-heard, Read, reads, names-part, map-snoc}
+use Rattle.ix_history.proofs.Heard.{heard_of, account-heard, Read, reads, names-part, map-snoc}
 use Rattle.ix_history.proofs.Joining.{runs-join}
 use Rattle.ix_history.proofs.Members.{in-cut, gone-in, account-gone, account-keeps, account-came, shipped-to, landed-from, came-part, came-in, account-back, account-left, landed-to, shipped-from, gone-part}
 use Rattle.ix_history.proofs.Places.{was-welcome}
@@ -172,27 +172,27 @@ module _ {U I O E : Type 0} (counted : I → Bool) (name : I → ℕ) (stepped :
   })
 
   -- what is known of a tenure at the opening
-  abbrev news_if : Bool → Bool → U → Account U I
+  abbrev pub news_if : Bool → Bool → U → Account U I
   news_if p q u = if p then (if q then home_news u else no_news) else no_news
 
-  stands-start : (here k : ℕ) (u : U) (p q : Bool) → (k == 0) ≡ q → Stand here k (news_if p q u) (if p then at_home u else empty)
+  pub stands-start : (here k : ℕ) (u : U) (p q : Bool) → (k == 0) ≡ q → Stand here k (news_if p q u) (if p then at_home u else empty)
   stands-start here k u true true e = let first : k ≡ 0 = grind (arith, nat_tests) in subst (λ n. Stand here n (home_news u) (at_home u)) (sym first) (stands-home here u)
   stands-start here k u true false e = stands-later here k u e
   stands-start here k u false q e = stands-empty here k
 
-  record Blank (a : Account U I) : Type 0 where
-    before : a.before ≡ []
-    behind : a.behind ≡ []
-    to : a.to ≡ []
-    gone : a.gone ≡ []
-    tagged : a.tagged ≡ false
+  pub record Blank (a : Account U I) : Type 0 where
+    pub before : a.before ≡ []
+    pub behind : a.behind ≡ []
+    pub to : a.to ≡ []
+    pub gone : a.gone ≡ []
+    pub tagged : a.tagged ≡ false
 
-  blank : (p q : Bool) (u : U) → Blank (news_if p q u)
+  pub blank : (p q : Bool) (u : U) → Blank (news_if p q u)
   blank true true u = record { before = refl; behind = refl; to = refl; gone = refl; tagged = refl }
   blank true false u = record { before = refl; behind = refl; to = refl; gone = refl; tagged = refl }
   blank false q u = record { before = refl; behind = refl; to = refl; gone = refl; tagged = refl }
 
-  news-open : (p q : Bool) (u : U) (k tenure : ℕ) → tenure ≡ 0 → (k == 0) ≡ q → (news_if p q u).is_open ≡ opens k (if p then Some tenure else None)
+  pub news-open : (p q : Bool) (u : U) (k tenure : ℕ) → tenure ≡ 0 → (k == 0) ≡ q → (news_if p q u).is_open ≡ opens k (if p then Some tenure else None)
   news-open true true u k tenure z e = let test : (tenure == k) ≡ true = grind (arith, nat_tests) in sym test
   news-open true false u k tenure z e = let test : (tenure == k) ≡ false = grind (arith, nat_tests) in sym test
   news-open false q u k tenure z e = refl

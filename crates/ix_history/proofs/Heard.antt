@@ -5,7 +5,6 @@ use Rattle.std.proofs.lemmas.Bool.Decides.{nat_tests}
 use Rattle.ix_desk.specs.declared.unit.DeskItem.{DeskItem}
 use Rattle.ix_desk.specs.declared.unit.DeskItem.TheVariants.{Work, Tag, Cut, Start}
 use Rattle.ix_desk.specs.Views.{Arrival}
-use Rattle.ix_order.specs.Wire.{Item}
 use Rattle.ix_order.specs.Pieces.{opened_by, if_open, adds}
 use Rattle.ix_order.specs.Stages.{same, behind_by, part}
 use Rattle.ix_order.specs.Ends.{opened, sends, sent}

@@ -7,4 +7,5 @@ pub mod Law
 pub mod Heard
 pub mod Members
 pub mod Cores
+pub mod Tenure
 pub mod Worked

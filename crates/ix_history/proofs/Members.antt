@@ -5,7 +5,7 @@ use Rattle.std.proofs.lemmas.Bool.Decides.{nat_tests}
 use Rattle.ix_desk.specs.Views.{Arrival, CutPiece}
 use Rattle.ix_desk.specs.declared.unit.DeskItem.{DeskItem}
 use Rattle.ix_desk.specs.declared.unit.DeskItem.TheVariants.{Work}
-use Rattle.ix_history.specs.Events.{RingItem, for_group, for_each, at_end, Parcel, Event, took, came, worked, gone, lent, Part, nothing, item, common, arrival, work, parcel, loan, part_of, arrival_of}
+use Rattle.ix_history.specs.Events.{for_group, for_each, at_end, Parcel, Event, took, came, worked, gone, lent, Part, nothing, item, common, arrival, work, parcel, loan, part_of, arrival_of}
 use Rattle.ix_history.specs.Pieces.{Account, noted, item_noted, account, cut_at}
 use Rattle.ix_history.specs.Items.{gone_to, came_from}
 use Rattle.ix_history.specs.Join.{In}

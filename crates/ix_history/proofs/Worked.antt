@@ -1,5 +1,5 @@
 -- The worked plays, event by event.
-use Rattle.std.proofs.Common.{◌≡◌, ℕ, zero, suc, ◌<◌, Bool, true, false, List, [], ◌∷◌, ◌||◌, get_or, length, replicate, refl, sym, ap, ◌∙◌, subst, arith}
+use Rattle.std.proofs.Common.{◌≡◌, ℕ, zero, suc, ◌<◌, Bool, true, false, List, [], ◌∷◌, get_or, length, replicate, refl, arith}
 use Rattle.std.specs.Prelude.{Some, None, map, ◌==◌, if◌then◌else◌}
 use Rattle.std.specs.List.{list_any}
 use Rattle.std.proofs.lemmas.Bool.Decides.{nat_tests}
@@ -10,7 +10,7 @@ use Rattle.ix_desk.specs.Desks.{group_at, with_group}
 use Rattle.ix_desk.specs.Steps.{EachWorked, group_leaves, GroupWorked, PieceWorked}
 use Rattle.ix_order.specs.Wire.{put_on}
 use Rattle.ix_history.specs.Runs.{Runs}
-use Rattle.ix_history.specs.Events.{Parcel, Event, gone, came, Happened}
+use Rattle.ix_history.specs.Events.{Parcel, Event, gone, Happened}
 use Rattle.ix_history.specs.Items.{told, taken_in, gone_to, came_from}
 use Rattle.ix_history.specs.Join.{In, IsIdle, Played}
 use Rattle.ix_history.specs.Worked.{Log, all_count, own_name, own_steps, Anyhow, Nothing, table, new_unit, at_first, at_second, before, behind_the_tag, moved, histories_behind, after_behind, two_moves, there, back, histories_two, after_two, WorkedPlays}

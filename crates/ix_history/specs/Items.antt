@@ -1,5 +1,5 @@
 -- What a history took, shipped and landed, and which of the items on a ring are those of a piece.
-use Rattle.std.specs.Prelude.{ℕ, ◌==◌, if◌then◌else◌, Bool, true, false, List, [], ◌∷◌, ◌++◌, Option, Some, None}
+use Rattle.std.specs.Prelude.{ℕ, ◌==◌, if◌then◌else◌, Bool, false, List, [], ◌∷◌, ◌++◌, Option, Some, None}
 use Rattle.ix_desk.specs.declared.unit.DeskItem.{DeskItem}
 use Rattle.ix_desk.specs.declared.unit.DeskItem.TheVariants.{Work, Tag, Cut, Start}
 use Rattle.ix_order.specs.Wire.{Item, clock, cut, start, tagged, ended}

@@ -1,6 +1,6 @@
 -- Several cores: what each did, and how it joins.
 use Rattle.std.specs.Prelude.{◌≡◌, ◌<◌, ◌⊎◌, ℕ, zero, suc, ◌==◌, Bool, true, false, if◌then◌else◌, List, [], ◌∷◌, ◌++◌, length, map, Some, None}
-use Rattle.ix_desk.specs.Views.{Piece, CutPiece, Group, View}
+use Rattle.ix_desk.specs.Views.{Piece, View}
 use Rattle.ix_desk.specs.Pieces.{ready, joined}
 use Rattle.ix_desk.specs.Groups.{empty, at_home}
 use Rattle.ix_desk.specs.Desks.{group_at, has_work, NothingDone}

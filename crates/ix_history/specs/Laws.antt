@@ -1,6 +1,7 @@
 -- The laws.
-use Rattle.std.specs.Prelude.{◌≡◌, ◌<◌, ℕ, suc, Bool, List, [], ◌∷◌, length, map, ◌++◌}
+use Rattle.std.specs.Prelude.{◌≡◌, ◌<◌, ℕ, Bool, if◌then◌else◌, List, [], ◌∷◌, length, map, ◌++◌}
 use Rattle.ix_desk.specs.Views.{View}
+use Rattle.ix_desk.specs.Groups.{empty, at_home}
 use Rattle.ix_desk.specs.Desks.{group_at}
 use Rattle.ix_order.specs.Wire.{Entry, Table}
 use Rattle.ix_history.specs.Runs.{Runs, RunsJoin}
@@ -9,6 +10,7 @@ use Rattle.ix_history.specs.Items.{taken_in, gone_to, came_from, handed_out}
 use Rattle.ix_history.specs.Run.{Run}
 use Rattle.ix_history.specs.Join.{Played, Joined, NowhereElse}
 use Rattle.ix_history.specs.Pieces.{Account, account, Stands}
+use Rattle.ix_history.specs.Tenure.{TenureLaw}
 
 -- What two histories that follow one another say together.
 pub record SayTogether (U I O : Type 0) : Type 0 where
@@ -33,14 +35,20 @@ module _ {U I O E : Type 0} (counted : I → Bool) (name : I → ℕ) (stepped :
         → Run counted name stepped advanced lends env x y items ins outs left → Run counted name stepped advanced lends env y z items' ins' outs' left'
         → Run counted name stepped advanced lends env x z (items ++ items') (ins ++ ins') (outs ++ outs') (left ++ left')
 
-  -- The desk law: what a core's desks hold of a tenure of a group is what the core's history says of it. What it stepped is the remote queue
-  -- of its arrival, and then its piece up to the tag, as far as work went, and what was shipped at its end is the rest of its piece.
-  abbrev pub DeskLaw : Type 0
-  DeskLaw = (env : E) (g k : ℕ) (x y : View U I) (history : List (Event U I O)) (a : Account U I)
+  -- Whatever was heard of a tenure before, what the desks hold of it follows the account of the history.
+  abbrev pub PieceLaw : Type 0
+  PieceLaw = (env : E) (g k : ℕ) (x y : View U I) (history : List (Event U I O)) (a : Account U I)
       → length x.groups ≡ 512 → g < 512
       → Runs (Happened counted name stepped advanced lends env) x history y
       → Stands counted name stepped advanced lends env x.core k a (group_at x g)
       → Stands counted name stepped advanced lends env x.core k (account k a (map (part_of g) history)) (group_at y g)
+
+  -- The desk law, for a core on which the unit of g is at home or isn't, over every history from the opening on.
+  abbrev pub DeskLaw : Type 0
+  DeskLaw = (env : E) (g k : ℕ) (home : Bool) (unit : U) (x y : View U I) (history : List (Event U I O))
+      → length x.groups ≡ 512 → g < 512 → group_at x g ≡ (if home then at_home unit else empty)
+      → Runs (Happened counted name stepped advanced lends env) x history y
+      → TenureLaw counted name stepped advanced lends env x.core g k home unit history y
 
   -- The join law: of each group, the steps of all cores are those of its entries, and its unit is on the core of its last tenure alone.
   abbrev pub JoinLaw : Type 0

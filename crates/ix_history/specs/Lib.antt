@@ -4,5 +4,6 @@ pub mod Items
 pub mod Pieces
 pub mod Run
 pub mod Join
+pub mod Tenure
 pub mod Laws
 pub mod Worked

@@ -1,5 +1,5 @@
 -- A history, seen from outside: what went in and what came out.
-use Rattle.std.specs.Prelude.{◌≡◌, ℕ, Bool, List, [], ◌∷◌, ◌++◌}
+use Rattle.std.specs.Prelude.{◌≡◌, ℕ, Bool, List, [], ◌∷◌}
 use Rattle.ix_desk.specs.Views.{View}
 use Rattle.ix_history.specs.Runs.{Runs}
 use Rattle.ix_history.specs.Events.{RingItem, Parcel, Event, took, came, worked, gone, lent, Happened}

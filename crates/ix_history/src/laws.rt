@@ -1,6 +1,6 @@
 // The laws.
 ghost use Rattle.std.specs.Prelude.{◌≡◌};
-ghost use Rattle.ix_history.specs.Laws.{HistoriesJoin, SayTogether, RunsGoOn, DeskLaw, JoinLaw};
+ghost use Rattle.ix_history.specs.Laws.{HistoriesJoin, SayTogether, RunsGoOn, DeskLaw, PieceLaw, JoinLaw};
 
 use crate::hands_out::HandsOut;
 use ix_order::pieces_joined;
@@ -13,11 +13,16 @@ pub fn histories_join<U: HandsOut>()
     ensures goes_on { RunsGoOn U.counted U.name U.stepped U.advanced U.lends }
 {}
 
-/// The desk law: for every history of a core, what its desks hold of a tenure of a flow group is what the history says of it. What the tenure
-/// stepped is the remote queue of its arrival, and then its piece up to the tag, in order, as far as work went; what was shipped is the unit
-/// with the rest of the piece. It does nothing: its contract is the law.
+/// The desk law, for every history of a core and every tenure of a flow group:
+///
+/// - `tenures`: from the opening on, what the tenure stepped here is the remote queue of its arrival, and then its piece up to the tag, in
+///   order, as far as work went; what was shipped at its end is the unit with the rest of the piece; and where the unit isn't here, all waits.
+/// - `pieces`: whatever stood at the desks before, what they hold of the tenure follows what the history says of it.
+///
+/// It does nothing: its contract is the law.
 pub fn desks_follow<U: HandsOut>()
-    ensures { DeskLaw U.counted U.name U.stepped U.advanced U.lends }
+    ensures tenures { DeskLaw U.counted U.name U.stepped U.advanced U.lends }
+    ensures pieces { PieceLaw U.counted U.name U.stepped U.advanced U.lends }
 {}
 
 /// The law on all cores: where each core took what the card put on its ring, what one shipped to another came there, and all are idle, the
