@@ -137,11 +137,11 @@ fn push_input(
     place: ConnPlace,
     ends: &[Option<WireNo>],
     at: usize,
-    view: EntryView<'_>,
+    view: &EntryView<'_>,
     replies: &mut Vec<Reply>,
 ) -> Result<(), NoMemory>
-    requires { All CanBeWritten view.outputs.now }
-    ensures replies { OnOk result (replies.new.items ≡ replies.old.items ++ input_replies local.now place.group.0 place.opening ends.now at (seen_entry view.entry)) }
+    requires { All CanBeWritten view.now.outputs.now }
+    ensures replies { OnOk result (replies.new.items ≡ replies.old.items ++ input_replies local.now place.group.0 place.opening ends.now at (seen_entry view.now)) }
     ensures short { All IsShort replies.old.items → OnOk result (All IsShort replies.new.items) }
 {
     let end = end_at(ends, at);
@@ -169,7 +169,8 @@ fn push_conn(
     let journal = &conn.journal;
     let ends = conn.ends.as_slice();
     for i in 0..journal.len() {
-        push_input(alloc, local, place, ends, i, journal.entry(i), replies)?;
+        let view = journal.entry(i);
+        push_input(alloc, local, place, ends, i, &view, replies)?;
     }
     Ok(())
 }

@@ -19,4 +19,4 @@ ReportsAreSound =
     → Fits (settings_of conf) frames entries r
     → (group : ℕ) (d : GroupRecord) → group < 512
     → IsSoundGroup (setting_of_play (settings_of conf) frames) (connects_in (settings_of conf) group) (cycles_of core0 (group_entries frames group entries))
-        (frames_given (group_entries frames group entries)) (slice_index_or r.groups group d)
+    (frames_given (group_entries frames group entries)) (slice_index_or r.groups group d)

@@ -76,8 +76,8 @@ fn call_kind(ask: &Ask) -> InputKind
     }
 }
 
-fn input_kind(view: EntryView<'_>, end: Option<WireNo>) -> InputKind
-    ensures { result ≡ input_kind (seen_input view.entry.input) view.entry.clock view.entry.core end }
+fn input_kind(view: &EntryView<'_>, end: Option<WireNo>) -> InputKind
+    ensures { result ≡ input_kind (seen_input view.now.input) view.now.clock view.now.core end }
 {
     match view.input {
         InputView::Sendv(bytes) => InputKind::Sendv {
@@ -120,12 +120,12 @@ fn push_input(
     opening: usize,
     ends: &[Option<WireNo>],
     at: usize,
-    view: EntryView<'_>,
+    view: &EntryView<'_>,
     lines: &mut Vec<Line>,
 ) -> Result<(), NoMemory>
     requires order { IsSortedByKey key_of key_cmp replies.now }
     requires few { length replies.now < 2 ^ 32 }
-    ensures { OnOk result (lines.new.items ≡ lines.old.items ++ input_lines replies.now group.0 opening ends.now at (seen_entry view.entry)) }
+    ensures { OnOk result (lines.new.items ≡ lines.old.items ++ input_lines replies.now group.0 opening ends.now at (seen_entry view.now)) }
 {
     let end = end_at(ends, at);
     lines.push(Line::Input(input_kind(view, end)))?;
@@ -152,7 +152,8 @@ fn push_journal(
     ensures { OnOk result (lines.new.items ≡ lines.old.items ++ placed (input_lines replies.now group.0 opening ends.now) 0 journal.now) }
 {
     for i in 0..journal.len() {
-        push_input(replies, group, opening, ends, i, journal.entry(i), lines)?;
+        let view = journal.entry(i);
+        push_input(replies, group, opening, ends, i, &view, lines)?;
     }
     Ok(())
 }
@@ -187,14 +188,7 @@ fn push_conn(
         opening: opening_of(group, conn),
     })?;
     let ends = conn.ends.as_slice();
-    push_journal(
-        replies,
-        group,
-        order + 1,
-        ends,
-        &conn.journal,
-        lines,
-    )?;
+    push_journal(replies, group, order + 1, ends, &conn.journal, lines)?;
     lines.push(Line::Left(conn.left))?;
     lines.push(Line::Answer {
         wrote: conn.wrote,
