@@ -264,7 +264,10 @@ fn buffers_travel_with_their_unit(rt: HostRuntime) -> Result<(), Fail> {
     let unit = new.unit(GROUP).ok_or("the unit")?;
     let held: Vec<u32> = unit.held.iter().map(|buf| buf.id().slot).collect(alloc)?;
     let spent: Vec<u32> = unit.spent.iter().map(|buf| buf.id().slot).collect(alloc)?;
-    assert_eq!(rt; (held.as_slice(), spent.as_slice()), ([2, 1].as_slice(), [0].as_slice()));
+    assert_eq!(rt;
+        (held.as_slice(), spent.as_slice()),
+        ([2, 1].as_slice(), [0].as_slice())
+    );
     Ok(())
 }
 
