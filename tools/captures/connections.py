@@ -62,6 +62,11 @@ class Connection:
         return self.server.initial is not None
 
     @property
+    def is_opened(self) -> bool:
+        """Whether both sides' SYNs are there."""
+        return self.client.initial is not None and self.is_answered
+
+    @property
     def is_scaled(self) -> bool:
         """Whether both sides announced window scaling, so that it is on (RFC 7323, section 2.2)."""
         return self.client.shift is not None and self.server.shift is not None

@@ -14,6 +14,7 @@ from captures.packets import CWR, FIN, ICMP, LONGEST_FRAME, PSH, RST, SYN, TCP, 
 
 GREATEST_WINDOW = 65_535
 LONGEST_READ = 2_048
+MOST_MISSING = 2**31
 PROTOCOLS = {ICMP: "ICMP", TCP: "TCP", UDP: "UDP"}
 
 
@@ -85,7 +86,7 @@ def _in_ethernet(number: int, record: Record, report: Report) -> Record:
     if frame[12:14] == b"\x08\x00" and len(frame) >= 34:
         report.hosts[frame[26:30]] = frame[6:12]
         report.hosts[frame[30:34]] = frame[:6]
-    return replace(record, link=ETHERNET, frame=frame)
+    return replace(record, link=ETHERNET, frame=frame, missing=min(max(0, record.missing), MOST_MISSING))
 
 
 def look_at(frame: bytes) -> Look:
@@ -109,11 +110,17 @@ def _with_connections(looks: list[Look], report: Report) -> list[Look]:
     found = []
     for look in looks:
         connection = connections.take(look.segment) if look.segment else None
-        if look.segment and connection is None and not look.segment.flags & RST:
-            report.unopened += 1
         found.append(replace(look, connection=connection))
     report.scaled = sum(connection.is_scaled for connection in connections.all)
+    report.unopened = sum(map(_is_unopened, found))
     return found
+
+
+def _is_unopened(look: Look) -> bool:
+    """Whether a frame is a segment of a connection whose opening is not whole in the capture."""
+    if look.segment is None or look.segment.flags & (SYN | RST):
+        return False
+    return look.connection is None or not look.connection.is_opened
 
 
 def segments_of(capture: Capture) -> Iterator[tuple[Segment, Connection]]:

@@ -11,6 +11,7 @@ from captures.preparation import Report, segments_of
 
 NAMED = 5
 MOST_RECORDS = 262_144
+MOST_BYTES = 67_108_864
 LEAST_MSS, GREATEST_MSS = 64, 1_460
 LEFT = {Kind.VLAN: "VLAN", Kind.IPV6: "IPv6", Kind.FRAGMENT: "fragments", Kind.CUT: "cut by the recorder"}
 
@@ -27,14 +28,16 @@ def numbers(records: list[int]) -> str:
     return ("record " if len(records) == 1 else "records ") + shown + (f" and {more} more" if more > 0 else "")
 
 
-def report_lines(report: Report) -> Iterator[str]:
-    """What was changed and what was left, in a few lines."""
+def report_lines(report: Report, length: int) -> Iterator[str]:
+    """What was changed and what was left, in a few lines, where the prepared capture has so many bytes."""
     yield count(report.records, "record") + (f", {report.written} written" if report.written != report.records else "")
     yield from _link_lines(report)
     yield from _change_lines(report)
     if not (report.changed() or report.links or report.flags):
         yield "nothing to change"
     yield from _left_lines(report)
+    if report.written > MOST_RECORDS or length > MOST_BYTES:
+        yield f"too much for ix: it takes {MOST_RECORDS:,} records and {MOST_BYTES:,} bytes, and these are {report.written:,} and {length:,}"
 
 
 def _link_lines(report: Report) -> Iterator[str]:
@@ -70,11 +73,9 @@ def _left_lines(report: Report) -> Iterator[str]:
     if report.wrong:
         yield f"left as they are, for a checksum that is wrong and not unfinished: {numbers(report.wrong)}"
     if report.unopened:
-        yield f"{count(report.unopened, 'segment')} of connections whose SYN is not in the capture: their windows are left as they are"
+        yield f"the windows of {count(report.unopened, 'segment')} are left, since the SYN or the SYN-ACK is not in the capture"
     if report.long:
         yield f"longer than ix takes (2,048 bytes): {numbers(report.long)}"
-    if report.written > MOST_RECORDS:
-        yield f"more records than ix takes ({MOST_RECORDS:,})"
 
 
 def configuration(prepared: Capture, application: str) -> str:

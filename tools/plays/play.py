@@ -7,8 +7,10 @@ from dataclasses import dataclass
 from enum import IntEnum
 from pathlib import Path
 
+from captures.packets import ACK, SYN, Segment
+
 from . import frames
-from .frames import Record, Segment
+from .frames import Record
 from .trace import Connection, Entry, Input, Output, Stray, Trace, read_trace
 
 BUFFER_BYTES = 2048
@@ -162,8 +164,8 @@ class Numbers:
 
     def learn(self, segment: Segment, passive: bool) -> None:
         """Takes the peer's initial number from its SYN, or from its SYN-ACK of our SYN."""
-        answers = segment.flags & frames.ACK and segment.acknowledgement == (self.iss + 1) % (2 * HALF)
-        if self.irs is None and segment.flags & frames.SYN and (passive or answers):
+        answers = segment.flags & ACK and segment.acknowledgement == (self.iss + 1) % (2 * HALF)
+        if self.irs is None and segment.flags & SYN and (passive or answers):
             self.irs = segment.sequence
 
     def shown(self, base: int | None, number: int) -> str:
@@ -180,10 +182,10 @@ class Numbers:
 
     def words(self, segment: Segment, sender: int | None, receiver: int | None) -> str:
         """Flags, numbers, and what stands behind them."""
-        words = [segment.flag_names(), f"seq {self.shown(sender, segment.sequence)}"]
-        if segment.flags & frames.ACK:
+        words = [frames.flag_names(segment), f"seq {self.shown(sender, segment.sequence)}"]
+        if segment.flags & ACK:
             words.append(f"ack {self.shown(receiver, segment.acknowledgement)}")
-        return " ".join([*words, segment.tail()])
+        return " ".join([*words, frames.tail(segment)])
 
 
 class Builder:

@@ -41,6 +41,19 @@ class Commands(unittest.TestCase):
             "prepare: unfinished checksums of 1 record finished: 1 TCP\n"
         )))  # fmt: skip
 
+    def test_what_is_left_is_told(self) -> None:
+        wrong = TALK[2][:50] + b"\x12\x34" + TALK[2][52:]
+        vlan, ipv6 = TALK[0][:12] + b"\x81\x00\x00\x05" + TALK[0][12:], TALK[0][:12] + b"\x86\xdd\x60" + bytes(2_050)
+        self.recorded.write_bytes(capture_bytes(capture_of([TALK[2], vlan, ipv6, wrong])))
+        self.assertEqual(self.prepare(), (0, "", (
+            "prepare: 4 records\n"
+            "prepare: nothing to change\n"
+            "prepare: left as they are: 1 VLAN, 1 IPv6\n"
+            "prepare: left as they are, for a checksum that is wrong and not unfinished: record 3\n"
+            "prepare: the windows of 1 segment are left, since the SYN or the SYN-ACK is not in the capture\n"
+            "prepare: longer than ix takes (2,048 bytes): record 2\n"
+        )))  # fmt: skip
+
     def test_over_its_own_output_nothing_changes(self) -> None:
         self.recorded.write_bytes(capture_bytes(capture_of(TALK)))
         self.prepare()

@@ -41,6 +41,7 @@ class Windows(unittest.TestCase):
             capture, report = prepare(capture_of(frames))
             self.assertEqual([record.frame for record in capture.records], frames)
             self.assertFalse(report.changed())
+            self.assertEqual(report.unopened, 1)
 
     def test_a_port_that_is_used_again(self) -> None:
         first, second = opening(scale(10), scale(10)), opening(MSS_1460, MSS_1460, initial=900_000)

@@ -3,15 +3,14 @@ use Rattle.std.proofs.Common.{◌≡◌, ℕ, ◌+◌, ◌<◌, refl, sym, ap, �
 use Rattle.std.specs.Prelude.{◌==◌, if◌then◌else◌}
 use Rattle.std.proofs.lemmas.Bool.Decides.{nat_tests}
 use Rattle.std.proofs.lemmas.List.{drop_more, drop_all}
-use Rattle.ix_base.specs.Prefix.{IsPrefix}
-use Rattle.ix_base.proofs.Prefixes.{prefix_nil, prefix_refl, prefix_append}
+use Rattle.ix_base.specs.Prefix.{IsPrefix, prefix_nil, prefix_refl, prefix_append, prefix_behind}
 use Rattle.ix_appdef.specs.declared.application.Application.{Application}
 use Rattle.ix_appdef.specs.declared.application.Application.TheVariants as applications
 use Rattle.ix_appdef.specs.declared.store.Entry.{Entry}
 use Rattle.ix_appdef.specs.Store.{Outcome}
 use Rattle.ix_appdef.specs.declared.key_value.Session.{Session}
 use Rattle.ix_appdef.specs.KeyValue.{outcome_of, answers_from, answers_with}
-use Rattle.ix_appdef.specs.Answers.{Grows, AnswersGrow, push_answer}
+use Rattle.ix_appdef.specs.Answers.{Grows, AnswersGrow, NothingFirst, push_answer}
 
 -- ## One more byte
 abbrev one_more : List Entry → List ℕ → ℕ → List ℕ → Bool → List ℕ
@@ -46,10 +45,6 @@ pub answers-next : (s : Session) (told : List ℕ) (i : ℕ) → i < length told
 answers-next s told i h = ap (answers_with s) (drop_more told i 0 h)
 
 -- ## What is told only adds to the answer
-prefix_behind : (xs ys zs : List ℕ) → IsPrefix ys zs → IsPrefix (xs ++ ys) (xs ++ zs)
-prefix_behind xs ys zs p =
-    record { rest = p.rest; joined = ap (λ us. xs ++ us) p.joined ∙ sym (append_assoc xs ys p.rest) }
-
 answers-grow : (store : List Entry) (line told more : List ℕ) → IsPrefix (answers_from store line told) (answers_from store line (told ++ more))
 unfolding answers_from
 answers-grow store line [] more = prefix_nil (answers_from store line more)
@@ -74,6 +69,13 @@ pub answers_grow : AnswersGrow
 answers_grow applications.Echo up later told more e = prefix_append told more
 answers_grow applications.Kv up later told more e = answers-grow [] [] told more
 answers_grow (applications.Push text) up later told more e = push-grows text up later told more e
+
+-- ## Nothing is answered before anything is told
+pub nothing_first : NothingFirst
+unfolding answers_from
+nothing_first applications.Echo = refl
+nothing_first applications.Kv = refl
+nothing_first (applications.Push text) = refl
 
 pub append_joins : (xs ys zs : List ℕ) → (xs ++ ys) ++ zs ≡ xs ++ (ys ++ zs)
 append_joins xs ys zs = append_assoc xs ys zs

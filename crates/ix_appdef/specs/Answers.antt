@@ -1,5 +1,5 @@
 -- What each application answers: a function of whether its connection was told to be up, and of the bytes that it was told.
-use Rattle.std.specs.Prelude.{◌≡◌, ℕ, Bool, true, if◌then◌else◌, List, [], ◌++◌}
+use Rattle.std.specs.Prelude.{◌≡◌, ℕ, Bool, true, false, if◌then◌else◌, List, [], ◌++◌}
 use Rattle.ix_base.specs.Prefix.{IsPrefix}
 use Rattle.ix_appdef.specs.declared.application.Application.{Application}
 use Rattle.ix_appdef.specs.declared.application.Application.TheVariants as applications
@@ -29,3 +29,7 @@ Grows answer =
 
 abbrev pub AnswersGrow : Type 0
 AnswersGrow = (application : Application) → Grows (answer_of application)
+
+-- Nothing is answered before anything is told.
+abbrev pub NothingFirst : Type 0
+NothingFirst = (application : Application) → answer_of application false [] ≡ []

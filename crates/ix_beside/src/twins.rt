@@ -5,7 +5,9 @@ ghost use Rattle.ix_tcpdef.specs.Sound.{FitsPeer, IsInRange, IsStanding, IsWritt
 
 use crate::draw::Draw;
 use ix_base::{ACK, Bytes, Flow, NoMemory, Ret, SYN, Seg, SegHead, WireNo};
-use ix_tcpdef::{Ask, BEHIND_HEADER, Cfg, Input, Output, Outputs, State, Tcb, World1, step_plain, unopened};
+use ix_tcpdef::{
+    Ask, BEHIND_HEADER, Cfg, Input, Output, Outputs, State, Tcb, World1, step_plain, unopened,
+};
 use ix_tcpout::{Outs, expire, flush};
 use std::alloc::Global;
 

@@ -8,23 +8,41 @@ use thiserror::Error;
 /// A key of the configuration, in the order in which the keys are tested.
 #[derive(Clone, Copy, Debug, PartialEq, Eq)]
 pub enum ConfKey {
+    /// `local.mac`: the hardware address of the local side.
     LocalMac,
+    /// `local.ip`: the IPv4 address of the local side.
     LocalIp,
+    /// `local.port`: the port that is served.
     LocalPort,
+    /// `local.app`: the application.
     LocalApp,
+    /// `core.cores`: the number of cores.
     CoreCores,
+    /// `core.live`: the number of cores that are live at the start.
     CoreLive,
+    /// `core.batch`: the most frames of a turn.
     CoreBatch,
+    /// `core.buffers`: the buffers of each core.
     CoreBuffers,
+    /// `core.pace`: the frames after which a settle is added.
     CorePace,
+    /// `tcp.window`: the receive window in octets.
     TcpWindow,
+    /// `tcp.mss`: the greatest segment in octets.
     TcpMss,
+    /// `tcp.rto`: the retransmission timeout in ticks.
     TcpRto,
+    /// `tcp.retries`: the number of retransmissions.
     TcpRetries,
+    /// `tcp.time_wait`: the time in TIME-WAIT in ticks.
     TcpTimeWait,
+    /// `tcp.checksum`: whether checksums are tested.
     TcpChecksum,
+    /// `neighbour`: the known neighbours.
     Neighbour,
+    /// `push.text`: what the application push writes.
     PushText,
+    /// `push.peers`: the peers of the application push.
     PushPeers,
 }
 
@@ -77,6 +95,7 @@ pub enum ConfFault {
     /// A key has a value of another kind, or one that it may not have.
     #[error("the configuration has another value at {key} than it may have")]
     Range { key: ConfKey },
+    /// Memory ran out.
     #[error("out of memory")]
     NoMemory,
 }

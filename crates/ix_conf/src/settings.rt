@@ -24,6 +24,7 @@ pub struct Conf {
     pub ip: u32,
     /// The port that the application serves.
     pub port: u16,
+    /// The application that serves the port.
     pub app: AppKind,
     /// The number of cores.
     pub cores: u8,

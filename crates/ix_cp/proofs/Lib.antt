@@ -1,2 +1,3 @@
+pub mod ElsewhereLaws
 pub mod EvenLaws
 pub mod PlanLaws

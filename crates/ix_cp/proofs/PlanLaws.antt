@@ -155,9 +155,9 @@ one_of true n best b e = inl (cc)
 one_of false n best b e = inr (cc)
 
 -- a live core below a number
-record IsLiveBelow (live : List Bool) (n b : ℕ) : Type 0 where
-  below : b < n
-  is_live : slice_index_or live b false ≡ true
+pub record IsLiveBelow (live : List Bool) (n b : ℕ) : Type 0 where
+  pub below : b < n
+  pub is_live : slice_index_or live b false ≡ true
 
 chosen : (at : List CoreId) (live : List Bool) (is : Bool) (best : Option ℕ) (n b : ℕ) → slice_index_or live n false ≡ is
     → (best ≡ Some b → IsLiveBelow live n b) → (if is then emptier at best n else best) ≡ Some b → IsLiveBelow live (suc n) b
@@ -170,7 +170,7 @@ chosen at live true (Some best) n b is lower e =
       | inr same ↦ let l : IsLiveBelow live n b = lower (rw same refl) in record { below = omega (arith, l.below); is_live = l.is_live }
     ]
 
-idlest-is_live : (at : List CoreId) (live : List Bool) (n b : ℕ) → idlest at live n ≡ Some b → IsLiveBelow live n b
+pub idlest-is_live : (at : List CoreId) (live : List Bool) (n b : ℕ) → idlest at live n ≡ Some b → IsLiveBelow live n b
 unfolding idlest
 idlest-is_live at live zero b e = absurd (cc)
 idlest-is_live at live (suc n) b e = chosen at live (slice_index_or live n false) (idlest at live n) n b refl (idlest-is_live at live n b) e

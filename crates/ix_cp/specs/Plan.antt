@@ -1,6 +1,6 @@
 -- The plans by which places are spread over the live cores. A place is a flow group or a class of flow groups; the list `at` has each
 -- place's core. Formats: docs/SCRIPT.md, "Plans".
-use Rattle.std.specs.Prelude.{◌≡◌, ◌<◌, ℕ, zero, suc, ◌+◌, ◌==◌, List, [], ◌∷◌, length, Bool, true, false, if◌then◌else◌, nat_lt, Option, Some, None, option_map, position, slice_index, slice_index_or, slice_set}
+use Rattle.std.specs.Prelude.{◌≡◌, ◌<◌, ℕ, zero, suc, ◌+◌, ◌==◌, List, [], ◌∷◌, length, Bool, true, false, if◌then◌else◌, nat_lt, Option, Some, None, option_map, position, slice_get, slice_index, slice_index_or, slice_set, All}
 use Rattle.ix_base.specs.declared.id.CoreId.{CoreId}
 use Rattle.ix_cp.specs.declared.plan.PlanMove.{PlanMove}
 
@@ -96,3 +96,23 @@ pub record IsMoveTo (live : List Bool) (places : ℕ) (m : PlanMove) : Type 0 wh
   pub place : m.group.0 < places
   pub core : m.to.0 < 8
   pub is_live : slice_index_or live m.to.0 false ≡ true
+
+-- whether a place is on a core, where there is such a place
+abbrev pub is_core : ℕ → Option CoreId → Bool
+is_core core None = false
+is_core core (Some owner) = owner.0 == core
+
+-- Each move takes its place to another core than the one that it is on by the moves before it.
+abbrev pub GoElsewhere : List CoreId → List PlanMove → Type 0
+GoElsewhere at [] = Unit {0}
+GoElsewhere at (m ∷ plan) = (is_core m.to.0 (slice_get at m.group.0) ≡ false) × GoElsewhere (moved m at) plan
+
+-- a plan for these places, with these cores live
+pub record IsPlanOf (live : List Bool) (at : List CoreId) (plan : List PlanMove) : Type 0 where
+  pub moves : All (IsMoveTo live (length at)) plan
+  pub elsewhere : GoElsewhere at plan
+
+-- The plans of both kinds are such, whichever cores are live.
+pub record ArePlans : Type 0 where
+  pub add : (live : List Bool) (core : ℕ) (at : List CoreId) → IsPlanOf (slice_set live core true) at (add_plan live core at)
+  pub revoke : (live : List Bool) (core : ℕ) (at : List CoreId) → IsPlanOf (slice_set live core false) at (revoke_plan live core at)

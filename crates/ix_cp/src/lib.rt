@@ -8,4 +8,4 @@ mod plan;
 mod tests;
 
 pub use cores::Cores;
-pub use plan::{PlanMove, plan_add, plan_revoke};
+pub use plan::{PlanMove, plan_add, plan_revoke, plans_go_elsewhere};

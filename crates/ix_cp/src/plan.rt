@@ -1,16 +1,18 @@
 // Plans: lists of moves that spread the places over the live cores.
 ghost use Rattle.std.specs.Prelude.{◌≡◌, ◌≤◌, ◌<◌, All, IfOk, None, false, length, slice_set, true};
-ghost use Rattle.ix_cp.specs.Plan.{IsMoveTo, add_plan, carried, due, evening_moves, leaving_moves, revoke_plan};
+ghost use Rattle.ix_cp.specs.Plan.{ArePlans, GoElsewhere, IsMoveTo, add_plan, carried, due, evening_moves, leaving_moves, revoke_plan};
 
 use crate::cores::Cores;
 use crate::places::Places;
 use ix_base::{CoreId, GroupId, NoMemory};
 use std::alloc::Global;
 
-/// One move of a plan: the place, which is a flow group or a class of flow groups, and the core that it goes to.
+/// One move of a plan.
 #[derive(Clone, Copy, Debug, PartialEq, Eq)]
 pub struct PlanMove {
+    /// The place, which is a flow group or a class of flow groups.
     pub group: GroupId,
+    /// The core that the place goes to.
     pub to: CoreId,
 }
 
@@ -29,6 +31,7 @@ pub fn plan_add(
     ensures plan { IfOk result (λ moves. moves.items ≡ add_plan cores.now.live core.0 at.now) }
     ensures even { IfOk result (λ moves. due (slice_set cores.now.live core.0 true) (carried moves.items at.now) ≡ None) }
     ensures moves { IfOk result (λ moves. All (IsMoveTo (slice_set cores.now.live core.0 true) (length at.now)) moves.items) }
+    ensures elsewhere { IfOk result (λ moves. GoElsewhere at.now moves.items) }
 {
     let mut live = cores.live;
     live[core.0 as usize] = true;
@@ -69,6 +72,7 @@ pub fn plan_revoke(
     requires core { core.0 < 8 }
     ensures plan { IfOk result (λ moves. moves.items ≡ revoke_plan cores.now.live core.0 at.now) }
     ensures moves { IfOk result (λ moves. All (IsMoveTo (slice_set cores.now.live core.0 false) (length at.now)) moves.items) }
+    ensures elsewhere { IfOk result (λ moves. GoElsewhere at.now moves.items) }
 {
     let mut others = cores.live;
     others[core.0 as usize] = false;
@@ -103,3 +107,9 @@ fn give_up(
     }
     Ok(moves)
 }
+
+/// Does nothing: its contract is the law of the plans. Whichever cores are live, each move of a plan is one of a place that is there, to
+/// a live core, and to another core than the one that the place is on by the moves before it.
+pub fn plans_go_elsewhere()
+    ensures { ArePlans }
+{}

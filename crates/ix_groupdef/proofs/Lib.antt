@@ -20,3 +20,9 @@ pub mod FitFrames
 pub mod Telling
 pub mod StrayParts
 pub mod Quiet
+pub mod Silent
+pub mod Rests
+pub mod Windows
+pub mod LeftOver
+pub mod JournalLaws
+pub mod NumberLaws

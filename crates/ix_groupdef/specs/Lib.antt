@@ -16,3 +16,7 @@ pub mod Answered
 pub mod Told
 pub mod StrayFrames
 pub mod Sent
+pub mod Rest
+pub mod Journal
+pub mod Owners
+pub mod Index

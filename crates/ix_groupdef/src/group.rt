@@ -85,9 +85,9 @@ fn passive_iss(env: &Env<Application>, flow: &Flow, clock: u64) -> u32
     }
 }
 
-// The connection that a segment opens.
+/// The connection that a segment opens.
 #[tactic(auto, unfolding(crate::specs::Group::opened))]
-fn opened(
+pub fn opened(
     alloc: Global,
     env: &Env<Application>,
     turn: Turn,
@@ -105,9 +105,9 @@ fn opened(
     Ok(life)
 }
 
-// A connection that the application asks for.
+/// A connection that the application asks for, at this tick.
 #[tactic(auto, unfolding(crate::specs::Group::dialled))]
-fn dialled(
+pub fn dialled(
     alloc: Global,
     env: &Env<Application>,
     turn: Turn,

@@ -11,7 +11,7 @@ use Rattle.ix_words.specs.Numbers.{hex8_of}
 use Rattle.ix_words.specs.Fields.{◌>>=◌, at_end, dotted_of, place_of}
 use Rattle.ix_words.proofs.PartLaws.{join-parts}
 use Rattle.ix_words.proofs.NumberLaws.{hex8_of-takes}
-use Rattle.ix_words.proofs.FieldLaws.{word_then, field_then, number_then, end_then, dotted_of-takes, place_of-takes}
+use Rattle.ix_words.proofs.FieldLaws.{word_then, field_then, named_then, number_then, named_number_then, end_then, dotted_of-takes, place_of-takes}
 use Rattle.ix_lines.specs.declared.line.Line.{Line}
 use Rattle.ix_lines.specs.declared.line.Line.TheVariants as lines
 use Rattle.ix_lines.specs.declared.types.Fate.{Fate}
@@ -109,7 +109,7 @@ record Takes (ws : List (List ℕ)) (l : Line) : Type 0 where
 head_takes : (verb : List ℕ) (ws : List (List ℕ)) (l : Line) → verb ≡ codes "head" → head_line ws ≡ Some l → Takes (verb ∷ ws) l
 unfolding head_line
 head_takes verb ws l v1 e0 =
-    word_then (codes "2") ws _ l e0 (λ r1 p1 f1. word_then (codes "cores") r1 _ l f1 (λ r2 p2 f2. number_then max8 r2 _ l small8 f2 (λ n3 r3 p3 h3 f3. word_then (codes "groups") r3 _ l f3 (λ r4 p4 f4. word_then (codes "512") r4 _ l f4 (λ r5 p5 f5. word_then (codes "batch") r5 _ l f5 (λ r6 p6 f6. number_then max16 r6 _ l small16 f6 (λ n7 r7 p7 h7 f7. word_then (codes "buffers") r7 _ l f7 (λ r8 p8 f8. number_then max32 r8 _ l small32 f8 (λ n9 r9 p9 h9 f9. end_then r9 (lines.Head (record { cores = n3; batch = n7; buffers = n9 })) l f9 (λ z y. subst (Takes (verb ∷ ws)) y (record { words = cc; fits = (h3, h7, h9) })))))))))))
+    word_then (codes "2") ws _ l e0 (λ r1 p1 f1. named_number_then (codes "cores") max8 r1 _ l small8 f1 (λ n3 r3 p3 h3 f3. word_then (codes "groups") r3 _ l f3 (λ r4 p4 f4. word_then (codes "512") r4 _ l f4 (λ r5 p5 f5. named_number_then (codes "batch") max16 r5 _ l small16 f5 (λ n7 r7 p7 h7 f7. named_number_then (codes "buffers") max32 r7 _ l small32 f7 (λ n9 r9 p9 h9 f9. end_then r9 (lines.Head (record { cores = n3; batch = n7; buffers = n9 })) l f9 (λ z y. subst (Takes (verb ∷ ws)) y (record { words = cc; fits = (h3, h7, h9) }))))))))
 
 open_takes : (verb : List ℕ) (ws : List (List ℕ)) (l : Line) → verb ≡ codes "settle" → open_line ws ≡ Some l → Takes (verb ∷ ws) l
 unfolding open_line
@@ -124,12 +124,12 @@ settle_takes verb ws l v1 e0 =
 ring_takes : (verb : List ℕ) (ws : List (List ℕ)) (l : Line) → verb ≡ codes "ring" → ring_line ws ≡ Some l → Takes (verb ∷ ws) l
 unfolding ring_line
 ring_takes verb ws l v1 e0 =
-    number_then max64 ws _ l small64 e0 (λ n1 r1 p1 h1 f1. word_then (codes "posted") r1 _ l f1 (λ r2 p2 f2. number_then max32 r2 _ l small32 f2 (λ n3 r3 p3 h3 f3. word_then (codes "frames") r3 _ l f3 (λ r4 p4 f4. number_then max32 r4 _ l small32 f4 (λ n5 r5 p5 h5 f5. word_then (codes "items") r5 _ l f5 (λ r6 p6 f6. number_then max32 r6 _ l small32 f6 (λ n7 r7 p7 h7 f7. end_then r7 (lines.Ring n1 (record { posted = n3; frames = n5; items = n7 })) l f7 (λ z y. subst (Takes (verb ∷ ws)) y (record { words = cc; fits = (h1, h3, h5, h7) })))))))))
+    number_then max64 ws _ l small64 e0 (λ n1 r1 p1 h1 f1. named_number_then (codes "posted") max32 r1 _ l small32 f1 (λ n3 r3 p3 h3 f3. named_number_then (codes "frames") max32 r3 _ l small32 f3 (λ n5 r5 p5 h5 f5. named_number_then (codes "items") max32 r5 _ l small32 f5 (λ n7 r7 p7 h7 f7. end_then r7 (lines.Ring n1 (record { posted = n3; frames = n5; items = n7 })) l f7 (λ z y. subst (Takes (verb ∷ ws)) y (record { words = cc; fits = (h1, h3, h5, h7) }))))))
 
 home_takes : (verb : List ℕ) (ws : List (List ℕ)) (l : Line) → verb ≡ codes "home" → home_line ws ≡ Some l → Takes (verb ∷ ws) l
 unfolding home_line
 home_takes verb ws l v1 e0 =
-    number_then max64 ws _ l small64 e0 (λ n1 r1 p1 h1 f1. word_then (codes "pool") r1 _ l f1 (λ r2 p2 f2. number_then max32 r2 _ l small32 f2 (λ n3 r3 p3 h3 f3. word_then (codes "posted") r3 _ l f3 (λ r4 p4 f4. number_then max32 r4 _ l small32 f4 (λ n5 r5 p5 h5 f5. word_then (codes "desk") r5 _ l f5 (λ r6 p6 f6. number_then max32 r6 _ l small32 f6 (λ n7 r7 p7 h7 f7. word_then (codes "held") r7 _ l f7 (λ r8 p8 f8. number_then max32 r8 _ l small32 f8 (λ n9 r9 p9 h9 f9. word_then (codes "app") r9 _ l f9 (λ r10 p10 f10. number_then max32 r10 _ l small32 f10 (λ n11 r11 p11 h11 f11. word_then (codes "queue") r11 _ l f11 (λ r12 p12 f12. number_then max32 r12 _ l small32 f12 (λ n13 r13 p13 h13 f13. end_then r13 (lines.Home n1 (record { pool = n3; posted = n5; desk = n7; held = n9; app = n11; queue = n13 })) l f13 (λ z y. subst (Takes (verb ∷ ws)) y (record { words = cc; fits = (h1, h3, h5, h7, h9, h11, h13) })))))))))))))))
+    number_then max64 ws _ l small64 e0 (λ n1 r1 p1 h1 f1. named_number_then (codes "pool") max32 r1 _ l small32 f1 (λ n3 r3 p3 h3 f3. named_number_then (codes "posted") max32 r3 _ l small32 f3 (λ n5 r5 p5 h5 f5. named_number_then (codes "desk") max32 r5 _ l small32 f5 (λ n7 r7 p7 h7 f7. named_number_then (codes "held") max32 r7 _ l small32 f7 (λ n9 r9 p9 h9 f9. named_number_then (codes "app") max32 r9 _ l small32 f9 (λ n11 r11 p11 h11 f11. named_number_then (codes "queue") max32 r11 _ l small32 f11 (λ n13 r13 p13 h13 f13. end_then r13 (lines.Home n1 (record { pool = n3; posted = n5; desk = n7; held = n9; app = n11; queue = n13 })) l f13 (λ z y. subst (Takes (verb ∷ ws)) y (record { words = cc; fits = (h1, h3, h5, h7, h9, h11, h13) })))))))))
 
 answered_takes : (verb : List ℕ) (ws : List (List ℕ)) (l : Line) → verb ≡ codes "connect" → answered_line ws ≡ Some l → Takes (verb ∷ ws) l
 unfolding answered_line
@@ -154,22 +154,22 @@ move_takes verb ws l v1 e0 =
 frame_takes : (verb : List ℕ) (ws : List (List ℕ)) (l : Line) → verb ≡ codes "frame" → frame_line ws ≡ Some l → Takes (verb ∷ ws) l
 unfolding frame_line
 frame_takes verb ws l v1 e0 =
-    number_then max64 ws _ l small64 e0 (λ n1 r1 p1 h1 f1. word_then (codes "rec") r1 _ l f1 (λ r2 p2 f2. number_then max32 r2 _ l small32 f2 (λ n3 r3 p3 h3 f3. word_then (codes "at") r3 _ l f3 (λ r4 p4 f4. number_then max32 r4 _ l small32 f4 (λ n5 r5 p5 h5 f5. word_then (codes "group") r5 _ l f5 (λ r6 p6 f6. number_then last_group r6 _ l smallg f6 (λ n7 r7 p7 h7 f7. word_then (codes "ring") r7 _ l f7 (λ r8 p8 f8. number_then max8 r8 _ l small8 f8 (λ n9 r9 p9 h9 f9. fate_then r9 _ l f9 (λ n10 p10 h10 f10. subst (Takes (verb ∷ ws)) (same_Some (lines.Entry n1 (entries.Frame n3 n5 (record { 0 = n7 }) (record { 0 = n9 }) n10)) l f10) (record { words = cc; fits = (h1, (h3, h5, h7, h9, h10)) })))))))))))
+    number_then max64 ws _ l small64 e0 (λ n1 r1 p1 h1 f1. named_number_then (codes "rec") max32 r1 _ l small32 f1 (λ n3 r3 p3 h3 f3. named_number_then (codes "at") max32 r3 _ l small32 f3 (λ n5 r5 p5 h5 f5. named_number_then (codes "group") last_group r5 _ l smallg f5 (λ n7 r7 p7 h7 f7. named_number_then (codes "ring") max8 r7 _ l small8 f7 (λ n9 r9 p9 h9 f9. fate_then r9 _ l f9 (λ n10 p10 h10 f10. subst (Takes (verb ∷ ws)) (same_Some (lines.Entry n1 (entries.Frame n3 n5 (record { 0 = n7 }) (record { 0 = n9 }) n10)) l f10) (record { words = cc; fits = (h1, (h3, h5, h7, h9, h10)) })))))))
 
 stray_takes : (verb : List ℕ) (ws : List (List ℕ)) (l : Line) → verb ≡ codes "stray" → stray_line ws ≡ Some l → Takes (verb ∷ ws) l
 unfolding stray_line
 stray_takes verb ws l v1 e0 =
-    number_then max32 ws _ l small32 e0 (λ n1 r1 p1 h1 f1. word_then (codes "core") r1 _ l f1 (λ r2 p2 f2. number_then max8 r2 _ l small8 f2 (λ n3 r3 p3 h3 f3. kind_then r3 _ l f3 (λ n4 r4 p4 f4. word_then (codes "reply") r4 _ l f4 (λ r5 p5 f5. field_then reply_number_of r5 _ l f5 (λ n6 w6 r6 p6 q6 f6. end_then r6 (lines.Stray (record { w = record { 0 = n1 }; core = record { 0 = n3 }; kind = n4; reply = n6 })) l f6 (λ z y. let t6 = reply_number_of-takes w6 n6 q6 in let u6 = t6.0 in subst (Takes (verb ∷ ws)) y (record { words = cc; fits = (h1, h3, t6.1) }))))))))
+    number_then max32 ws _ l small32 e0 (λ n1 r1 p1 h1 f1. named_number_then (codes "core") max8 r1 _ l small8 f1 (λ n3 r3 p3 h3 f3. kind_then r3 _ l f3 (λ n4 r4 p4 f4. word_then (codes "reply") r4 _ l f4 (λ r5 p5 f5. field_then reply_number_of r5 _ l f5 (λ n6 w6 r6 p6 q6 f6. end_then r6 (lines.Stray (record { w = record { 0 = n1 }; core = record { 0 = n3 }; kind = n4; reply = n6 })) l f6 (λ z y. let t6 = reply_number_of-takes w6 n6 q6 in let u6 = t6.0 in subst (Takes (verb ∷ ws)) y (record { words = cc; fits = (h1, h3, t6.1) })))))))
 
 conn_takes : (verb : List ℕ) (ws : List (List ℕ)) (l : Line) → verb ≡ codes "conn" → conn_line ws ≡ Some l → Takes (verb ∷ ws) l
 unfolding conn_line
 conn_takes verb ws l v1 e0 =
-    number_then last_group ws _ l smallg e0 (λ n1 r1 p1 h1 f1. number_then max64 r1 _ l small64 f1 (λ n2 r2 p2 h2 f2. word_then (codes "remote") r2 _ l f2 (λ r3 p3 f3. field_then dotted_of r3 _ l f3 (λ n4 w4 r4 p4 q4 f4. number_then max16 r4 _ l small16 f4 (λ n5 r5 p5 h5 f5. word_then (codes "local") r5 _ l f5 (λ r6 p6 f6. number_then max16 r6 _ l small16 f6 (λ n7 r7 p7 h7 f7. word_then (codes "iss") r7 _ l f7 (λ r8 p8 f8. field_then hex8_of r8 _ l f8 (λ n9 w9 r9 p9 q9 f9. end_then r9 (lines.Conn n2 (record { group = record { 0 = n1 }; remote = n4; remote_port = n5; local_port = n7; iss = n9 })) l f9 (λ z y. let t4 = dotted_of-takes n4 w4 q4 in let u4 = t4.0 in let t9 = hex8_of-takes n9 w9 q9 in let u9 = t9.0 in subst (Takes (verb ∷ ws)) y (record { words = cc; fits = (h1, h2, t4.1, h5, h7, t9.1) })))))))))))
+    number_then last_group ws _ l smallg e0 (λ n1 r1 p1 h1 f1. number_then max64 r1 _ l small64 f1 (λ n2 r2 p2 h2 f2. named_then (codes "remote") dotted_of r2 _ l f2 (λ n4 w4 r4 p4 q4 f4. number_then max16 r4 _ l small16 f4 (λ n5 r5 p5 h5 f5. named_number_then (codes "local") max16 r5 _ l small16 f5 (λ n7 r7 p7 h7 f7. named_then (codes "iss") hex8_of r7 _ l f7 (λ n9 w9 r9 p9 q9 f9. end_then r9 (lines.Conn n2 (record { group = record { 0 = n1 }; remote = n4; remote_port = n5; local_port = n7; iss = n9 })) l f9 (λ z y. let t4 = dotted_of-takes n4 w4 q4 in let u4 = t4.0 in let t9 = hex8_of-takes n9 w9 q9 in let u9 = t9.0 in subst (Takes (verb ∷ ws)) y (record { words = cc; fits = (h1, h2, t4.1, h5, h7, t9.1) }))))))))
 
 seg_takes : (verb : List ℕ) (ws : List (List ℕ)) (l : Line) → verb ≡ codes "seg" → seg_line ws ≡ Some l → Takes (verb ∷ ws) l
 unfolding seg_line
 seg_takes verb ws l v1 e0 =
-    number_then max32 ws _ l small32 e0 (λ n1 r1 p1 h1 f1. word_then (codes "core") r1 _ l f1 (λ r2 p2 f2. number_then max8 r2 _ l small8 f2 (λ n3 r3 p3 h3 f3. end_then r3 (lines.Input (inputs.Seg (record { 0 = n1 }) (record { 0 = n3 }))) l f3 (λ z y. subst (Takes (verb ∷ ws)) y (record { words = cc; fits = (h1, h3) })))))
+    number_then max32 ws _ l small32 e0 (λ n1 r1 p1 h1 f1. named_number_then (codes "core") max8 r1 _ l small8 f1 (λ n3 r3 p3 h3 f3. end_then r3 (lines.Input (inputs.Seg (record { 0 = n1 }) (record { 0 = n3 }))) l f3 (λ z y. subst (Takes (verb ∷ ws)) y (record { words = cc; fits = (h1, h3) }))))
 
 timer_takes : (verb : List ℕ) (ws : List (List ℕ)) (l : Line) → verb ≡ codes "timer" → timer_line ws ≡ Some l → Takes (verb ∷ ws) l
 unfolding timer_line
@@ -199,7 +199,7 @@ reply_takes verb ws l v1 e0 =
 done_takes : (verb : List ℕ) (ws : List (List ℕ)) (l : Line) → verb ≡ codes "ret" → done_line ws ≡ Some l → Takes (verb ∷ ws) l
 unfolding done_line
 done_takes verb ws l v1 e0 =
-    word_then (codes "done") ws _ l e0 (λ r1 p1 f1. number_then max32 r1 _ l small32 f1 (λ n2 r2 p2 h2 f2. end_then r2 (lines.Output (outputs.Ret (rets.Done n2))) l f2 (λ z y. subst (Takes (verb ∷ ws)) y (record { words = cc; fits = h2 }))))
+    named_number_then (codes "done") max32 ws _ l small32 e0 (λ n2 r2 p2 h2 f2. end_then r2 (lines.Output (outputs.Ret (rets.Done n2))) l f2 (λ z y. subst (Takes (verb ∷ ws)) y (record { words = cc; fits = h2 })))
 
 refused_takes : (verb : List ℕ) (ws : List (List ℕ)) (l : Line) → verb ≡ codes "ret" → refused_line ws ≡ Some l → Takes (verb ∷ ws) l
 unfolding refused_line
@@ -234,22 +234,22 @@ dead_takes verb word ws l v1 v2 e0 =
 left_takes : (verb : List ℕ) (ws : List (List ℕ)) (l : Line) → verb ≡ codes "left" → left_line ws ≡ Some l → Takes (verb ∷ ws) l
 unfolding left_line
 left_takes verb ws l v1 e0 =
-    field_then state_of ws _ l e0 (λ n1 w1 r1 p1 q1 f1. word_then (codes "una") r1 _ l f1 (λ r2 p2 f2. number_then max64 r2 _ l small64 f2 (λ n3 r3 p3 h3 f3. word_then (codes "nxt") r3 _ l f3 (λ r4 p4 f4. number_then max64 r4 _ l small64 f4 (λ n5 r5 p5 h5 f5. word_then (codes "rcv") r5 _ l f5 (λ r6 p6 f6. number_then max64 r6 _ l small64 f6 (λ n7 r7 p7 h7 f7. word_then (codes "cwnd") r7 _ l f7 (λ r8 p8 f8. number_then max32 r8 _ l small32 f8 (λ n9 r9 p9 h9 f9. word_then (codes "ssthresh") r9 _ l f9 (λ r10 p10 f10. number_then max32 r10 _ l small32 f10 (λ n11 r11 p11 h11 f11. end_then r11 (lines.Left (record { state = n1; una = n3; nxt = n5; rcv = n7; cwnd = n9; ssthresh = n11 })) l f11 (λ z y. let u1 = state_of-takes w1 n1 q1 in subst (Takes (verb ∷ ws)) y (record { words = cc; fits = (h3, h5, h7, h9, h11) })))))))))))))
+    field_then state_of ws _ l e0 (λ n1 w1 r1 p1 q1 f1. named_number_then (codes "una") max64 r1 _ l small64 f1 (λ n3 r3 p3 h3 f3. named_number_then (codes "nxt") max64 r3 _ l small64 f3 (λ n5 r5 p5 h5 f5. named_number_then (codes "rcv") max64 r5 _ l small64 f5 (λ n7 r7 p7 h7 f7. named_number_then (codes "cwnd") max32 r7 _ l small32 f7 (λ n9 r9 p9 h9 f9. named_number_then (codes "ssthresh") max32 r9 _ l small32 f9 (λ n11 r11 p11 h11 f11. end_then r11 (lines.Left (record { state = n1; una = n3; nxt = n5; rcv = n7; cwnd = n9; ssthresh = n11 })) l f11 (λ z y. let u1 = state_of-takes w1 n1 q1 in subst (Takes (verb ∷ ws)) y (record { words = cc; fits = (h3, h5, h7, h9, h11) }))))))))
 
 answer_takes : (verb : List ℕ) (ws : List (List ℕ)) (l : Line) → verb ≡ codes "answer" → answer_line ws ≡ Some l → Takes (verb ∷ ws) l
 unfolding answer_line
 answer_takes verb ws l v1 e0 =
-    word_then (codes "wrote") ws _ l e0 (λ r1 p1 f1. number_then max64 r1 _ l small64 f1 (λ n2 r2 p2 h2 f2. word_then (codes "taken") r2 _ l f2 (λ r3 p3 f3. number_then max64 r3 _ l small64 f3 (λ n4 r4 p4 h4 f4. end_then r4 (lines.Answer n2 n4) l f4 (λ z y. subst (Takes (verb ∷ ws)) y (record { words = cc; fits = (h2, h4) }))))))
+    named_number_then (codes "wrote") max64 ws _ l small64 e0 (λ n2 r2 p2 h2 f2. named_number_then (codes "taken") max64 r2 _ l small64 f2 (λ n4 r4 p4 h4 f4. end_then r4 (lines.Answer n2 n4) l f4 (λ z y. subst (Takes (verb ∷ ws)) y (record { words = cc; fits = (h2, h4) }))))
 
 closed_takes : (verb : List ℕ) (ws : List (List ℕ)) (l : Line) → verb ≡ codes "closed" → closed_line ws ≡ Some l → Takes (verb ∷ ws) l
 unfolding closed_line
 closed_takes verb ws l v1 e0 =
-    number_then max64 ws _ l small64 e0 (λ n1 r1 p1 h1 f1. word_then (codes "pool") r1 _ l f1 (λ r2 p2 f2. number_then max32 r2 _ l small32 f2 (λ n3 r3 p3 h3 f3. end_then r3 (lines.Closed n1 n3) l f3 (λ z y. subst (Takes (verb ∷ ws)) y (record { words = cc; fits = (h1, h3) })))))
+    number_then max64 ws _ l small64 e0 (λ n1 r1 p1 h1 f1. named_number_then (codes "pool") max32 r1 _ l small32 f1 (λ n3 r3 p3 h3 f3. end_then r3 (lines.Closed n1 n3) l f3 (λ z y. subst (Takes (verb ∷ ws)) y (record { words = cc; fits = (h1, h3) }))))
 
 end_takes : (verb : List ℕ) (ws : List (List ℕ)) (l : Line) → verb ≡ codes "end" → end_line ws ≡ Some l → Takes (verb ∷ ws) l
 unfolding end_line
 end_takes verb ws l v1 e0 =
-    word_then (codes "replies") ws _ l e0 (λ r1 p1 f1. number_then max32 r1 _ l small32 f1 (λ n2 r2 p2 h2 f2. word_then (codes "drops") r2 _ l f2 (λ r3 p3 f3. number_then max32 r3 _ l small32 f3 (λ n4 r4 p4 h4 f4. end_then r4 (lines.End n2 n4) l f4 (λ z y. subst (Takes (verb ∷ ws)) y (record { words = cc; fits = (h2, h4) }))))))
+    named_number_then (codes "replies") max32 ws _ l small32 e0 (λ n2 r2 p2 h2 f2. named_number_then (codes "drops") max32 r2 _ l small32 f2 (λ n4 r4 p4 h4 f4. end_then r4 (lines.End n2 n4) l f4 (λ z y. subst (Takes (verb ∷ ws)) y (record { words = cc; fits = (h2, h4) }))))
 
 or_takes : {P : Type 0} (o p : Option Line) (l : Line) → or_else o p ≡ Some l → (o ≡ Some l → P) → (p ≡ Some l → P) → P
 or_takes (Some k) p l e f g = f e

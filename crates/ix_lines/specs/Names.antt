@@ -1,5 +1,5 @@
 -- The words that stand for a state, a disposition, an answer (formats: docs/TRACE.md).
-use Rattle.std.specs.Prelude.{ℕ, List, [], ◌∷◌, Option, Some, None, if◌then◌else◌, codes}
+use Rattle.std.specs.Prelude.{find, ℕ, List, [], ◌∷◌, Option, Some, None, if◌then◌else◌, codes}
 use Rattle.std.specs.Str.{bytes_eq}
 use Rattle.std.specs.Fmt.{decimal}
 use Rattle.ix_words.specs.Numbers.{number_of}
@@ -17,8 +17,7 @@ use Rattle.ix_lines.specs.declared.types.OutputLine.TheVariants as outputs
 
 -- the first of these values whose word this is
 abbrev pub named : {A : Type 0} → (A → List ℕ) → List A → List ℕ → Option A
-named word [] w = None
-named word (x ∷ xs) w = if bytes_eq w (word x) then Some x else named word xs w
+named word xs w = find (λ x. bytes_eq w (word x)) xs
 
 -- ## States, by the names of RFC 9293, section 3.3.2
 abbrev pub state_word : State → List ℕ

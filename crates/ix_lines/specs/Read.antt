@@ -3,7 +3,7 @@ use Rattle.std.specs.Prelude.{ℕ, List, [], ◌∷◌, Option, Some, None, if�
 use Rattle.std.specs.Str.{bytes_eq}
 use Rattle.ix_words.specs.Parts.{parts}
 use Rattle.ix_words.specs.Numbers.{number_of, hex8_of}
-use Rattle.ix_words.specs.Fields.{◌>>=◌, behind_word, field_of, at_end, dotted_of, place_of}
+use Rattle.ix_words.specs.Fields.{◌>>=◌, behind_word, field_of, named_field, at_end, dotted_of, place_of}
 use Rattle.ix_lines.specs.declared.line.Line.{Line}
 use Rattle.ix_lines.specs.declared.line.Line.TheVariants as lines
 use Rattle.ix_lines.specs.declared.types.Fate.{Fate}
@@ -50,14 +50,11 @@ fate_of (verb ∷ ws) =
 unfoldable pub head_line : List (List ℕ) → Option Line
 head_line ws = do
   a1 ← behind_word (codes "2") ws
-  a2 ← behind_word (codes "cores") a1
-  cores ← field_of (number_of max8) a2
+  cores ← named_field (codes "cores") (number_of max8) a1
   a4 ← behind_word (codes "groups") cores.1
   a5 ← behind_word (codes "512") a4
-  a6 ← behind_word (codes "batch") a5
-  batch ← field_of (number_of max16) a6
-  a8 ← behind_word (codes "buffers") batch.1
-  buffers ← field_of (number_of max32) a8
+  batch ← named_field (codes "batch") (number_of max16) a5
+  buffers ← named_field (codes "buffers") (number_of max32) batch.1
   at_end buffers.1 (lines.Head (record { cores = cores.0; batch = batch.0; buffers = buffers.0 }))
 
 unfoldable pub open_line : List (List ℕ) → Option Line
@@ -73,29 +70,20 @@ settle_line ws = do
 unfoldable pub ring_line : List (List ℕ) → Option Line
 ring_line ws = do
   core ← field_of (number_of max64) ws
-  a2 ← behind_word (codes "posted") core.1
-  posted ← field_of (number_of max32) a2
-  a4 ← behind_word (codes "frames") posted.1
-  frames ← field_of (number_of max32) a4
-  a6 ← behind_word (codes "items") frames.1
-  items ← field_of (number_of max32) a6
+  posted ← named_field (codes "posted") (number_of max32) core.1
+  frames ← named_field (codes "frames") (number_of max32) posted.1
+  items ← named_field (codes "items") (number_of max32) frames.1
   at_end items.1 (lines.Ring core.0 (record { posted = posted.0; frames = frames.0; items = items.0 }))
 
 unfoldable pub home_line : List (List ℕ) → Option Line
 home_line ws = do
   core ← field_of (number_of max64) ws
-  a2 ← behind_word (codes "pool") core.1
-  pool ← field_of (number_of max32) a2
-  a4 ← behind_word (codes "posted") pool.1
-  posted ← field_of (number_of max32) a4
-  a6 ← behind_word (codes "desk") posted.1
-  desk ← field_of (number_of max32) a6
-  a8 ← behind_word (codes "held") desk.1
-  held ← field_of (number_of max32) a8
-  a10 ← behind_word (codes "app") held.1
-  app ← field_of (number_of max32) a10
-  a12 ← behind_word (codes "queue") app.1
-  queue ← field_of (number_of max32) a12
+  pool ← named_field (codes "pool") (number_of max32) core.1
+  posted ← named_field (codes "posted") (number_of max32) pool.1
+  desk ← named_field (codes "desk") (number_of max32) posted.1
+  held ← named_field (codes "held") (number_of max32) desk.1
+  app ← named_field (codes "app") (number_of max32) held.1
+  queue ← named_field (codes "queue") (number_of max32) app.1
   at_end queue.1 (lines.Home core.0 (record { pool = pool.0; posted = posted.0; desk = desk.0; held = held.0; app = app.0; queue = queue.0 }))
 
 unfoldable pub answered_line : List (List ℕ) → Option Line
@@ -126,22 +114,17 @@ move_line ws = do
 unfoldable pub frame_line : List (List ℕ) → Option Line
 frame_line ws = do
   wire ← field_of (number_of max64) ws
-  a2 ← behind_word (codes "rec") wire.1
-  rec ← field_of (number_of max32) a2
-  a4 ← behind_word (codes "at") rec.1
-  at_n ← field_of (number_of max32) a4
-  a6 ← behind_word (codes "group") at_n.1
-  group ← field_of (number_of last_group) a6
-  a8 ← behind_word (codes "ring") group.1
-  ring_n ← field_of (number_of max8) a8
+  rec ← named_field (codes "rec") (number_of max32) wire.1
+  at_n ← named_field (codes "at") (number_of max32) rec.1
+  group ← named_field (codes "group") (number_of last_group) at_n.1
+  ring_n ← named_field (codes "ring") (number_of max8) group.1
   fate ← fate_of ring_n.1
   Some (lines.Entry wire.0 (entries.Frame rec.0 at_n.0 (record { 0 = group.0 }) (record { 0 = ring_n.0 }) fate))
 
 unfoldable pub stray_line : List (List ℕ) → Option Line
 stray_line ws = do
   w ← field_of (number_of max32) ws
-  a2 ← behind_word (codes "core") w.1
-  core ← field_of (number_of max8) a2
+  core ← named_field (codes "core") (number_of max8) w.1
   kind ← kind_of core.1
   a5 ← behind_word (codes "reply") kind.1
   reply ← field_of reply_number_of a5
@@ -151,20 +134,16 @@ unfoldable pub conn_line : List (List ℕ) → Option Line
 conn_line ws = do
   group ← field_of (number_of last_group) ws
   order ← field_of (number_of max64) group.1
-  a3 ← behind_word (codes "remote") order.1
-  remote ← field_of dotted_of a3
+  remote ← named_field (codes "remote") dotted_of order.1
   remote_port ← field_of (number_of max16) remote.1
-  a6 ← behind_word (codes "local") remote_port.1
-  local_port ← field_of (number_of max16) a6
-  a8 ← behind_word (codes "iss") local_port.1
-  iss ← field_of hex8_of a8
+  local_port ← named_field (codes "local") (number_of max16) remote_port.1
+  iss ← named_field (codes "iss") hex8_of local_port.1
   at_end iss.1 (lines.Conn order.0 (record { group = record { 0 = group.0 }; remote = remote.0; remote_port = remote_port.0; local_port = local_port.0; iss = iss.0 }))
 
 unfoldable pub seg_line : List (List ℕ) → Option Line
 seg_line ws = do
   w ← field_of (number_of max32) ws
-  a2 ← behind_word (codes "core") w.1
-  core ← field_of (number_of max8) a2
+  core ← named_field (codes "core") (number_of max8) w.1
   at_end core.1 (lines.Input (inputs.Seg (record { 0 = w.0 }) (record { 0 = core.0 })))
 
 unfoldable pub timer_line : List (List ℕ) → Option Line
@@ -194,8 +173,7 @@ reply_line ws = do
 
 unfoldable pub done_line : List (List ℕ) → Option Line
 done_line ws = do
-  a1 ← behind_word (codes "done") ws
-  n ← field_of (number_of max32) a1
+  n ← named_field (codes "done") (number_of max32) ws
   at_end n.1 (lines.Output (outputs.Ret (rets.Done n.0)))
 
 unfoldable pub refused_line : List (List ℕ) → Option Line
@@ -234,39 +212,29 @@ dead_line ws = do
 unfoldable pub left_line : List (List ℕ) → Option Line
 left_line ws = do
   state ← field_of state_of ws
-  a2 ← behind_word (codes "una") state.1
-  una ← field_of (number_of max64) a2
-  a4 ← behind_word (codes "nxt") una.1
-  nxt ← field_of (number_of max64) a4
-  a6 ← behind_word (codes "rcv") nxt.1
-  rcv ← field_of (number_of max64) a6
-  a8 ← behind_word (codes "cwnd") rcv.1
-  cwnd ← field_of (number_of max32) a8
-  a10 ← behind_word (codes "ssthresh") cwnd.1
-  ssthresh ← field_of (number_of max32) a10
+  una ← named_field (codes "una") (number_of max64) state.1
+  nxt ← named_field (codes "nxt") (number_of max64) una.1
+  rcv ← named_field (codes "rcv") (number_of max64) nxt.1
+  cwnd ← named_field (codes "cwnd") (number_of max32) rcv.1
+  ssthresh ← named_field (codes "ssthresh") (number_of max32) cwnd.1
   at_end ssthresh.1 (lines.Left (record { state = state.0; una = una.0; nxt = nxt.0; rcv = rcv.0; cwnd = cwnd.0; ssthresh = ssthresh.0 }))
 
 unfoldable pub answer_line : List (List ℕ) → Option Line
 answer_line ws = do
-  a1 ← behind_word (codes "wrote") ws
-  wrote ← field_of (number_of max64) a1
-  a3 ← behind_word (codes "taken") wrote.1
-  taken ← field_of (number_of max64) a3
+  wrote ← named_field (codes "wrote") (number_of max64) ws
+  taken ← named_field (codes "taken") (number_of max64) wrote.1
   at_end taken.1 (lines.Answer wrote.0 taken.0)
 
 unfoldable pub closed_line : List (List ℕ) → Option Line
 closed_line ws = do
   core ← field_of (number_of max64) ws
-  a2 ← behind_word (codes "pool") core.1
-  pool ← field_of (number_of max32) a2
+  pool ← named_field (codes "pool") (number_of max32) core.1
   at_end pool.1 (lines.Closed core.0 pool.0)
 
 unfoldable pub end_line : List (List ℕ) → Option Line
 end_line ws = do
-  a1 ← behind_word (codes "replies") ws
-  replies ← field_of (number_of max32) a1
-  a3 ← behind_word (codes "drops") replies.1
-  drops ← field_of (number_of max32) a3
+  replies ← named_field (codes "replies") (number_of max32) ws
+  drops ← named_field (codes "drops") (number_of max32) replies.1
   at_end drops.1 (lines.End replies.0 drops.0)
 
 -- ## Which kind it is: by the first word, and where that doesn't decide by the second

@@ -1,11 +1,12 @@
 -- The words of a line, and its text (formats: docs/TRACE.md).
-use Rattle.std.specs.Prelude.{ℕ, ◌≤◌, ◌<◌, ◌^◌, List, [], ◌∷◌, ◌++◌, Option, Some, None, codes}
+use Rattle.std.specs.Prelude.{ℕ, ◌-◌, ◌≤◌, ◌<◌, ◌^◌, List, [], ◌∷◌, ◌++◌, Option, Some, None, codes}
 use Rattle.std.specs.List.{flat_map}
 use Rattle.std.specs.Fmt.{decimal}
 use Rattle.ix_words.specs.Parts.{join}
 use Rattle.ix_words.specs.Numbers.{hex8}
 use Rattle.ix_words.specs.Fields.{dotted, place}
 use Rattle.ix_base.specs.declared.id.BufId.{BufId}
+use Rattle.ix_base.specs.declared.id.TheConstants.{FLOW_GROUPS}
 use Rattle.ix_tcpdef.specs.declared.types.Left.{Left}
 use Rattle.ix_lines.specs.declared.line.Line.{Line}
 use Rattle.ix_lines.specs.declared.line.Line.TheVariants as lines
@@ -125,7 +126,7 @@ abbrev pub max64 : ℕ
 max64 = 18446744073709551615
 
 abbrev pub last_group : ℕ
-last_group = 511
+last_group = FLOW_GROUPS - 1
 
 abbrev pub FitsBuf : BufId → Type 0
 FitsBuf b = (b.home.0 ≤ max8) × (b.slot ≤ max32)

@@ -11,7 +11,9 @@ pub enum Line {
     Head(Head),
     /// What follows is the settle before the first entry.
     Open,
+    /// A core's ring at a settle.
     Ring { core: u64, ring: RingLine },
+    /// Where a core's buffers are at a settle.
     Home { core: u64, home: HomeLine },
     /// A connect that was made before the first entry, with its place among them.
     Connect { peer: u64, answer: ConnectLine },
@@ -22,10 +24,11 @@ pub enum Line {
     Conn { order: u64, opening: Opening },
     Input(InputKind),
     Output(OutputLine),
+    /// How a connection was left.
     Left(Left),
-    /// How many bytes the application wrote, and how many TCP took.
+    /// How many octets the application wrote, and how many of them TCP took.
     Answer { wrote: u64, taken: u64 },
-    /// What a core's pool has when all buffers are home.
+    /// How many buffers a core's pool has when all are home.
     Closed { core: u64, pool: u32 },
     /// How many frames were sent, and how many of the card's were dropped.
     End { replies: u32, drops: u32 },

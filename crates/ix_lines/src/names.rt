@@ -1,15 +1,29 @@
 // The words that stand for a state, a disposition, an answer.
 ghost use Rattle.std.specs.Prelude.{◌≡◌};
-ghost use Rattle.ix_words.specs.Parts.{join, parts_after};
-ghost use Rattle.ix_words.specs.Fields.{left, field_of};
-ghost use Rattle.ix_lines.specs.Names.{state_word, state_of, connect_word, connect_answer_of, kind_words, plain_kind_of, ip_fault_of, tcp_fault_of, kind_of, reply_number_of, refusal_of, connected_of, dead_of};
+ghost use Rattle.ix_words.specs.Parts.{join};
+ghost use Rattle.ix_words.specs.Fields.{with_rest};
+ghost use Rattle.ix_lines.specs.Names.{state_word, state_of, connect_word, connect_answer_of, kind_words, kind_word, plain_kind_of, ip_fault_of, tcp_fault_of, kind_of, reply_number_of, ret_word, refusal_of, outcome_word, connected_of, dead_of};
 
 use crate::types::{ConnectLine, OutputLine, RetLine};
 use ix_base::Disposition;
 use ix_tcpdef::State;
-use ix_words::{number_of, split_part};
+use ix_words::{Parts, number_of};
 
-/// The name of a state, as RFC 9293 writes it.
+const STATES: [State; 11] = [
+    State::Listen,
+    State::SynSent,
+    State::SynReceived,
+    State::Established,
+    State::FinWait1,
+    State::FinWait2,
+    State::CloseWait,
+    State::Closing,
+    State::LastAck,
+    State::TimeWait,
+    State::Closed,
+];
+
+/// The name of a state, as RFC 9293, section 3.3.2, writes it.
 pub fn state_word(state: State) -> &'static str
     ensures { result.now ≡ state_word state }
 {
@@ -28,46 +42,23 @@ pub fn state_word(state: State) -> &'static str
     }
 }
 
+/// The state with this name.
 #[tactic(auto, unfolding(crate::specs::Names::state_of))]
-fn state_of(word: &[u8]) -> Option<State>
+pub fn state_of(word: &[u8]) -> Option<State>
     ensures { result ≡ state_of word.now }
 {
-    if word == b"LISTEN".as_slice() {
-        Some(State::Listen)
-    } else if word == b"SYN-SENT".as_slice() {
-        Some(State::SynSent)
-    } else if word == b"SYN-RECEIVED".as_slice() {
-        Some(State::SynReceived)
-    } else if word == b"ESTABLISHED".as_slice() {
-        Some(State::Established)
-    } else if word == b"FIN-WAIT-1".as_slice() {
-        Some(State::FinWait1)
-    } else if word == b"FIN-WAIT-2".as_slice() {
-        Some(State::FinWait2)
-    } else if word == b"CLOSE-WAIT".as_slice() {
-        Some(State::CloseWait)
-    } else if word == b"CLOSING".as_slice() {
-        Some(State::Closing)
-    } else if word == b"LAST-ACK".as_slice() {
-        Some(State::LastAck)
-    } else if word == b"TIME-WAIT".as_slice() {
-        Some(State::TimeWait)
-    } else if word == b"CLOSED".as_slice() {
-        Some(State::Closed)
-    } else {
-        None
-    }
+    STATES
+        .iter()
+        .copied()
+        .find(|state| word == state_word(*state).as_bytes())
 }
 
-/// A state's name, and the words behind it.
-pub fn next_state(words: Option<&[u8]>) -> Option<(State, Option<&[u8]>)>
-    ensures { left 32 result ≡ field_of state_of (parts_after 32 words.entry) }
-{
-    let bytes = words?;
-    let (word, rest) = split_part(bytes, b' ');
-    let state = state_of(word)?;
-    Some((state, rest))
-}
+const CONNECT_ANSWERS: [ConnectLine; 4] = [
+    ConnectLine::Done,
+    ConnectLine::NoNeighbour,
+    ConnectLine::NoPort,
+    ConnectLine::TableFull,
+];
 
 /// The word for what became of a connect.
 pub fn connect_word(answer: ConnectLine) -> &'static str
@@ -81,32 +72,41 @@ pub fn connect_word(answer: ConnectLine) -> &'static str
     }
 }
 
+/// What became of a connect, by its word.
 #[tactic(auto, unfolding(crate::specs::Names::connect_answer_of))]
-fn connect_answer_of(word: &[u8]) -> Option<ConnectLine>
+pub fn connect_answer_of(word: &[u8]) -> Option<ConnectLine>
     ensures { result ≡ connect_answer_of word.now }
 {
-    if word == b"done".as_slice() {
-        Some(ConnectLine::Done)
-    } else if word == b"no-neighbour".as_slice() {
-        Some(ConnectLine::NoNeighbour)
-    } else if word == b"no-port".as_slice() {
-        Some(ConnectLine::NoPort)
-    } else if word == b"table-full".as_slice() {
-        Some(ConnectLine::TableFull)
-    } else {
-        None
-    }
+    CONNECT_ANSWERS
+        .iter()
+        .copied()
+        .find(|answer| word == connect_word(*answer).as_bytes())
 }
 
-/// What became of a connect, and the words behind it.
-pub fn next_connect_answer(words: Option<&[u8]>) -> Option<(ConnectLine, Option<&[u8]>)>
-    ensures { left 32 result ≡ field_of connect_answer_of (parts_after 32 words.entry) }
-{
-    let bytes = words?;
-    let (word, rest) = split_part(bytes, b' ');
-    let answer = connect_answer_of(word)?;
-    Some((answer, rest))
-}
+const PLAIN_KINDS: [Disposition; 8] = [
+    Disposition::NotIp,
+    Disposition::NotOurs,
+    Disposition::Arp,
+    Disposition::NotTcp,
+    Disposition::Closed,
+    Disposition::Full,
+    Disposition::IcmpEcho,
+    Disposition::UdpEcho,
+];
+
+const IP_FAULTS: [Disposition; 5] = [
+    Disposition::BadIpShort,
+    Disposition::BadIpVersion,
+    Disposition::BadIpLength,
+    Disposition::BadIpSum,
+    Disposition::BadIpFragment,
+];
+
+const TCP_FAULTS: [Disposition; 3] = [
+    Disposition::BadTcpShort,
+    Disposition::BadTcpOffset,
+    Disposition::BadTcpSum,
+];
 
 /// The words for a disposition, with a blank between where they are two.
 pub fn kind_text(kind: Disposition) -> &'static str
@@ -132,193 +132,148 @@ pub fn kind_text(kind: Disposition) -> &'static str
     }
 }
 
+// The last of the words for a disposition, which names it among its like.
+fn kind_word(kind: Disposition) -> &'static str
+    ensures { result.now ≡ kind_word kind }
+{
+    match kind {
+        Disposition::BadIpShort | Disposition::BadTcpShort => "short",
+        Disposition::BadIpVersion => "version",
+        Disposition::BadIpLength => "length",
+        Disposition::BadIpSum | Disposition::BadTcpSum => "sum",
+        Disposition::BadIpFragment => "fragment",
+        Disposition::BadTcpOffset => "offset",
+        _ => kind_text(kind),
+    }
+}
+
 #[tactic(auto, unfolding(crate::specs::Names::plain_kind_of))]
 fn plain_kind_of(word: &[u8]) -> Option<Disposition>
     ensures { result ≡ plain_kind_of word.now }
 {
-    if word == b"not-ip".as_slice() {
-        Some(Disposition::NotIp)
-    } else if word == b"not-ours".as_slice() {
-        Some(Disposition::NotOurs)
-    } else if word == b"arp".as_slice() {
-        Some(Disposition::Arp)
-    } else if word == b"not-tcp".as_slice() {
-        Some(Disposition::NotTcp)
-    } else if word == b"closed".as_slice() {
-        Some(Disposition::Closed)
-    } else if word == b"full".as_slice() {
-        Some(Disposition::Full)
-    } else if word == b"icmp-echo".as_slice() {
-        Some(Disposition::IcmpEcho)
-    } else if word == b"udp-echo".as_slice() {
-        Some(Disposition::UdpEcho)
-    } else {
-        None
-    }
+    PLAIN_KINDS
+        .iter()
+        .copied()
+        .find(|kind| word == kind_word(*kind).as_bytes())
 }
 
 #[tactic(auto, unfolding(crate::specs::Names::ip_fault_of))]
 fn ip_fault_of(word: &[u8]) -> Option<Disposition>
     ensures { result ≡ ip_fault_of word.now }
 {
-    if word == b"short".as_slice() {
-        Some(Disposition::BadIpShort)
-    } else if word == b"version".as_slice() {
-        Some(Disposition::BadIpVersion)
-    } else if word == b"length".as_slice() {
-        Some(Disposition::BadIpLength)
-    } else if word == b"sum".as_slice() {
-        Some(Disposition::BadIpSum)
-    } else if word == b"fragment".as_slice() {
-        Some(Disposition::BadIpFragment)
-    } else {
-        None
-    }
+    IP_FAULTS
+        .iter()
+        .copied()
+        .find(|kind| word == kind_word(*kind).as_bytes())
 }
 
 #[tactic(auto, unfolding(crate::specs::Names::tcp_fault_of))]
 fn tcp_fault_of(word: &[u8]) -> Option<Disposition>
     ensures { result ≡ tcp_fault_of word.now }
 {
-    if word == b"short".as_slice() {
-        Some(Disposition::BadTcpShort)
-    } else if word == b"offset".as_slice() {
-        Some(Disposition::BadTcpOffset)
-    } else if word == b"sum".as_slice() {
-        Some(Disposition::BadTcpSum)
-    } else {
-        None
-    }
+    TCP_FAULTS
+        .iter()
+        .copied()
+        .find(|kind| word == kind_word(*kind).as_bytes())
 }
 
-fn next_ip_fault(words: Option<&[u8]>) -> Option<(Disposition, Option<&[u8]>)>
-    ensures { left 32 result ≡ field_of ip_fault_of (parts_after 32 words.entry) }
-{
-    let bytes = words?;
-    let (word, rest) = split_part(bytes, b' ');
-    let kind = ip_fault_of(word)?;
-    Some((kind, rest))
-}
-
-fn next_tcp_fault(words: Option<&[u8]>) -> Option<(Disposition, Option<&[u8]>)>
-    ensures { left 32 result ≡ field_of tcp_fault_of (parts_after 32 words.entry) }
-{
-    let bytes = words?;
-    let (word, rest) = split_part(bytes, b' ');
-    let kind = tcp_fault_of(word)?;
-    Some((kind, rest))
-}
-
-/// A disposition, and the words behind it.
+/// Takes a disposition, which is one word or two.
 #[tactic(auto, unfolding(crate::specs::Names::kind_of))]
-pub fn next_kind(words: Option<&[u8]>) -> Option<(Disposition, Option<&[u8]>)>
-    ensures { left 32 result ≡ kind_of (parts_after 32 words.entry) }
+pub fn next_kind(words: &mut Parts<'_>) -> Option<Disposition>
+    ensures { with_rest words.new result ≡ kind_of words.old }
 {
-    let bytes = words?;
-    let (word, rest) = split_part(bytes, b' ');
+    let word = words.next_part()?;
     if word == b"bad-ip".as_slice() {
-        next_ip_fault(rest)
+        ip_fault_of(words.next_part()?)
     } else if word == b"bad-tcp".as_slice() {
-        next_tcp_fault(rest)
+        tcp_fault_of(words.next_part()?)
     } else {
-        let kind = plain_kind_of(word)?;
-        Some((kind, rest))
+        plain_kind_of(word)
     }
 }
 
+/// The number of a reply, or None for a dash.
 #[tactic(auto, unfolding(crate::specs::Names::reply_number_of))]
-fn reply_number_of(word: &[u8]) -> Option<Option<u32>>
+pub fn reply_number_of(word: &[u8]) -> Option<Option<u32>>
     ensures { result ≡ reply_number_of word.now }
 {
     if word == b"-".as_slice() {
         Some(None)
     } else {
-        let n = number_of(word, 4294967295)?;
+        let n = number_of(word, 4_294_967_295)?;
         Some(Some(n as u32))
     }
 }
 
-/// The number of a reply or a dash, and the words behind it.
-pub fn next_reply(words: Option<&[u8]>) -> Option<(Option<u32>, Option<&[u8]>)>
-    ensures { left 32 result ≡ field_of reply_number_of (parts_after 32 words.entry) }
+const REFUSALS: [RetLine; 4] = [
+    RetLine::BadHandle,
+    RetLine::NotKnocked,
+    RetLine::NotOpen,
+    RetLine::TooMuch,
+];
+
+/// The word for what a call answered, in front of the number where there is one.
+pub fn ret_word(ret: RetLine) -> &'static str
+    ensures { result.now ≡ ret_word ret }
 {
-    let bytes = words?;
-    let (word, rest) = split_part(bytes, b' ');
-    let reply = reply_number_of(word)?;
-    Some((reply, rest))
+    match ret {
+        RetLine::Done(_) => "done",
+        RetLine::BadHandle => "bad-handle",
+        RetLine::NotKnocked => "not-knocked",
+        RetLine::NotOpen => "not-open",
+        RetLine::TooMuch => "too-much",
+    }
 }
 
+/// Why a call was refused, by its word.
 #[tactic(auto, unfolding(crate::specs::Names::refusal_of))]
-fn refusal_of(word: &[u8]) -> Option<RetLine>
+pub fn refusal_of(word: &[u8]) -> Option<RetLine>
     ensures { result ≡ refusal_of word.now }
 {
-    if word == b"bad-handle".as_slice() {
-        Some(RetLine::BadHandle)
-    } else if word == b"not-knocked".as_slice() {
-        Some(RetLine::NotKnocked)
-    } else if word == b"not-open".as_slice() {
-        Some(RetLine::NotOpen)
-    } else if word == b"too-much".as_slice() {
-        Some(RetLine::TooMuch)
-    } else {
-        None
+    REFUSALS
+        .iter()
+        .copied()
+        .find(|ret| word == ret_word(*ret).as_bytes())
+}
+
+const CONNECTED: [OutputLine; 3] = [
+    OutputLine::ConnectedUp,
+    OutputLine::ConnectedRefused,
+    OutputLine::ConnectedTimeout,
+];
+
+const DEAD: [OutputLine; 2] = [OutputLine::DeadReset, OutputLine::DeadTimeout];
+
+// The word for how a connect or a connection ended; no word for another output.
+fn outcome_word(outcome: OutputLine) -> &'static str
+    ensures { result.now ≡ outcome_word outcome }
+{
+    match outcome {
+        OutputLine::ConnectedUp => "up",
+        OutputLine::ConnectedRefused => "refused",
+        OutputLine::ConnectedTimeout | OutputLine::DeadTimeout => "timeout",
+        OutputLine::DeadReset => "reset",
+        _ => "",
     }
 }
 
-/// Why a call was refused, and the words behind it.
-pub fn next_refusal(words: Option<&[u8]>) -> Option<(RetLine, Option<&[u8]>)>
-    ensures { left 32 result ≡ field_of refusal_of (parts_after 32 words.entry) }
-{
-    let bytes = words?;
-    let (word, rest) = split_part(bytes, b' ');
-    let ret = refusal_of(word)?;
-    Some((ret, rest))
-}
-
+/// How a connect of the application ended, by its word.
 #[tactic(auto, unfolding(crate::specs::Names::connected_of))]
-fn connected_of(word: &[u8]) -> Option<OutputLine>
+pub fn connected_of(word: &[u8]) -> Option<OutputLine>
     ensures { result ≡ connected_of word.now }
 {
-    if word == b"up".as_slice() {
-        Some(OutputLine::ConnectedUp)
-    } else if word == b"refused".as_slice() {
-        Some(OutputLine::ConnectedRefused)
-    } else if word == b"timeout".as_slice() {
-        Some(OutputLine::ConnectedTimeout)
-    } else {
-        None
-    }
+    CONNECTED
+        .iter()
+        .copied()
+        .find(|outcome| word == outcome_word(*outcome).as_bytes())
 }
 
-/// How a connect of the application ended, and the words behind it.
-pub fn next_connected(words: Option<&[u8]>) -> Option<(OutputLine, Option<&[u8]>)>
-    ensures { left 32 result ≡ field_of connected_of (parts_after 32 words.entry) }
-{
-    let bytes = words?;
-    let (word, rest) = split_part(bytes, b' ');
-    let outcome = connected_of(word)?;
-    Some((outcome, rest))
-}
-
+/// Why a connection died, by its word.
 #[tactic(auto, unfolding(crate::specs::Names::dead_of))]
-fn dead_of(word: &[u8]) -> Option<OutputLine>
+pub fn dead_of(word: &[u8]) -> Option<OutputLine>
     ensures { result ≡ dead_of word.now }
 {
-    if word == b"reset".as_slice() {
-        Some(OutputLine::DeadReset)
-    } else if word == b"timeout".as_slice() {
-        Some(OutputLine::DeadTimeout)
-    } else {
-        None
-    }
-}
-
-/// Why a connection died, and the words behind it.
-pub fn next_dead(words: Option<&[u8]>) -> Option<(OutputLine, Option<&[u8]>)>
-    ensures { left 32 result ≡ field_of dead_of (parts_after 32 words.entry) }
-{
-    let bytes = words?;
-    let (word, rest) = split_part(bytes, b' ');
-    let outcome = dead_of(word)?;
-    Some((outcome, rest))
+    DEAD.iter()
+        .copied()
+        .find(|outcome| word == outcome_word(*outcome).as_bytes())
 }

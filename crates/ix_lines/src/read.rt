@@ -1,583 +1,474 @@
 // The line that bytes are.
-ghost use Rattle.std.specs.Prelude.{◌≡◌, ◌∷◌, ◌≤◌, map};
-ghost use Rattle.ix_words.specs.Parts.{parts_after};
-ghost use Rattle.ix_words.specs.Fields.{at_end, left, field_of, place_of};
-ghost use Rattle.ix_lines.specs.Words.{max8, max32};
+ghost use Rattle.std.specs.Prelude.{◌≡◌, codes};
+ghost use Rattle.std.specs.Option.{option_map};
+ghost use Rattle.ix_words.specs.Numbers.{number_of};
+ghost use Rattle.ix_words.specs.Fields.{with_rest, field_of, named_field, at_end, place_of};
+ghost use Rattle.ix_lines.specs.Words.{max8, max32, last_group};
 ghost use Rattle.ix_lines.specs.Read.{buf_fate, amount_of, drop_fate, fate_of, head_line, open_line, settle_line, ring_line, home_line, answered_line, time_line, tag_line, move_line, frame_line, stray_line, conn_line, seg_line, timer_line, sendv_line, recv_done_line, flush_line, reply_line, done_line, refused_line, connected_line, ended_line, recv_line, sent_line, dead_line, left_line, answer_line, closed_line, end_line, call_line, event_line, journal_line, entry_line, by_verb, line_read};
 
 use crate::line::Line;
 use crate::names::{
-    next_connect_answer, next_connected, next_dead, next_kind, next_refusal, next_reply, next_state,
+    connect_answer_of, connected_of, dead_of, next_kind, refusal_of, reply_number_of, state_of,
 };
 use crate::types::{
     EntryLine, Fate, Head, HomeLine, InputKind, Opening, OutputLine, RetLine, RingLine, StrayLine,
 };
-use ix_base::{BufId, CoreId, GroupId, WireNo};
+use ix_base::{BufId, CoreId, FLOW_GROUPS, GroupId, WireNo};
 use ix_tcpdef::Left;
-use ix_words::{next_dotted, next_hex, next_number, next_place, next_word, split_part};
+use ix_words::Parts;
 
-const MAX8: u64 = 255;
+const LAST_GROUP: u64 = FLOW_GROUPS as u64 - 1;
 
-const MAX16: u64 = 65535;
-
-const MAX32: u64 = 4294967295;
-
-const LAST_GROUP: u64 = 511;
-
-#[tactic(auto, using(crate::proofs::ReadLaws::no_end_fate), unfolding(crate::specs::Read::buf_fate))]
-fn buf_fate(words: Option<&[u8]>) -> Option<Fate>
-    ensures { result ≡ buf_fate (parts_after 32 words.entry) }
+// A group's number.
+fn next_group(words: &mut Parts<'_>) -> Option<GroupId>
+    ensures { with_rest words.new (option_map (λ group. group.0) result) ≡ field_of (number_of last_group) words.old }
 {
-    let ((home, slot), words) = next_place(words, MAX8, MAX32)?;
-    match words {
-        None => Some(Fate::Buf(BufId {
-            home: CoreId(home as u8),
-            slot: slot as u32,
-        })),
-        Some(_) => None,
-    }
+    let number = words.number(LAST_GROUP)?;
+    Some(GroupId(number as u16))
 }
 
-#[tactic(auto, using(crate::proofs::ReadLaws::no_end_number), unfolding(crate::specs::Read::amount_of))]
-fn amount_of(words: Option<&[u8]>) -> Option<u32>
-    ensures { result ≡ amount_of (parts_after 32 words.entry) }
+// A group's number, behind its name.
+fn named_group(words: &mut Parts<'_>) -> Option<GroupId>
+    ensures { with_rest words.new (option_map (λ group. group.0) result) ≡ named_field (codes "group") (number_of last_group) words.old }
 {
-    let (n, words) = next_number(words, b' ', MAX32)?;
-    match words {
-        None => Some(n as u32),
-        Some(_) => None,
-    }
+    words.word("group")?;
+    next_group(words)
+}
+
+// A buffer: its home and its slot there.
+fn next_buf(words: &mut Parts<'_>) -> Option<BufId>
+    ensures { with_rest words.new (option_map (λ buf. (buf.home.0, buf.slot)) result) ≡ field_of (place_of max8 max32) words.old }
+{
+    let (home, slot) = words.place(255, 4_294_967_295)?;
+    Some(BufId {
+        home: CoreId(home as u8),
+        slot: slot as u32,
+    })
+}
+
+#[tactic(auto, unfolding(crate::specs::Read::buf_fate))]
+fn buf_fate(mut words: Parts<'_>) -> Option<Fate>
+    ensures { result ≡ buf_fate words.entry }
+{
+    let buf = next_buf(&mut words)?;
+    words.end()?;
+    Some(Fate::Buf(buf))
+}
+
+#[tactic(auto, unfolding(crate::specs::Read::amount_of))]
+fn amount_of(mut words: Parts<'_>) -> Option<u32>
+    ensures { result ≡ amount_of words.entry }
+{
+    let amount = words.next_u32()?;
+    words.end()?;
+    Some(amount)
 }
 
 #[tactic(auto, unfolding(crate::specs::Read::drop_fate))]
-fn drop_fate(words: Option<&[u8]>) -> Option<Fate>
-    ensures { result ≡ drop_fate (parts_after 32 words.entry) }
+fn drop_fate(mut words: Parts<'_>) -> Option<Fate>
+    ensures { result ≡ drop_fate words.entry }
 {
-    let bytes = words?;
-    let (cause, words) = split_part(bytes, b' ');
-    if cause == b"ring-full".as_slice() {
-        let n = amount_of(words)?;
-        Some(Fate::RingFull(n))
-    } else if cause == b"no-buffer".as_slice() {
-        let n = amount_of(words)?;
-        Some(Fate::NoBuffer(n))
-    } else if cause == b"too-long".as_slice() {
-        let n = amount_of(words)?;
-        Some(Fate::TooLong(n))
+    let word = words.next_part()?;
+    if word == b"ring-full".as_slice() {
+        Some(Fate::RingFull(amount_of(words)?))
+    } else if word == b"no-buffer".as_slice() {
+        Some(Fate::NoBuffer(amount_of(words)?))
+    } else if word == b"too-long".as_slice() {
+        Some(Fate::TooLong(amount_of(words)?))
     } else {
         None
     }
 }
 
 #[tactic(auto, unfolding(crate::specs::Read::fate_of))]
-fn fate_of(words: Option<&[u8]>) -> Option<Fate>
-    ensures { result ≡ fate_of (parts_after 32 words.entry) }
+fn fate_of(mut words: Parts<'_>) -> Option<Fate>
+    ensures { result ≡ fate_of words.entry }
 {
-    let bytes = words?;
-    let (verb, words) = split_part(bytes, b' ');
-    if verb == b"buf".as_slice() {
+    let word = words.next_part()?;
+    if word == b"buf".as_slice() {
         buf_fate(words)
-    } else if verb == b"drop".as_slice() {
+    } else if word == b"drop".as_slice() {
         drop_fate(words)
     } else {
         None
     }
 }
 
-#[tactic(auto, using(crate::proofs::ReadLaws::no_end), unfolding(crate::specs::Read::head_line))]
-fn head_line(words: Option<&[u8]>) -> Option<Line>
-    ensures { result ≡ head_line (parts_after 32 words.entry) }
+#[tactic(auto, unfolding(crate::specs::Read::head_line))]
+fn head_line(mut words: Parts<'_>) -> Option<Line>
+    ensures { result ≡ head_line words.entry }
 {
-    let words = next_word(words, "2")?;
-    let words = next_word(words, "cores")?;
-    let (cores, words) = next_number(words, b' ', MAX8)?;
-    let words = next_word(words, "groups")?;
-    let words = next_word(words, "512")?;
-    let words = next_word(words, "batch")?;
-    let (batch, words) = next_number(words, b' ', MAX16)?;
-    let words = next_word(words, "buffers")?;
-    let (buffers, words) = next_number(words, b' ', MAX32)?;
-    match words {
-        None => Some(Line::Head(Head {
-            cores: cores as u8,
-            batch: batch as u16,
-            buffers: buffers as u32,
-        })),
-        Some(_) => None,
-    }
+    words.word("2")?;
+    let cores = words.named_u8("cores")?;
+    words.word("groups")?;
+    words.word("512")?;
+    let batch = words.named_u16("batch")?;
+    let buffers = words.named_u32("buffers")?;
+    words.end()?;
+    Some(Line::Head(Head {
+        cores,
+        batch,
+        buffers,
+    }))
 }
 
-#[tactic(auto, using(crate::proofs::ReadLaws::no_end), unfolding(crate::specs::Read::open_line))]
-fn open_line(words: Option<&[u8]>) -> Option<Line>
-    ensures { result ≡ open_line (parts_after 32 words.entry) }
+#[tactic(auto, unfolding(crate::specs::Read::open_line))]
+fn open_line(mut words: Parts<'_>) -> Option<Line>
+    ensures { result ≡ open_line words.entry }
 {
-    let words = next_word(words, "open")?;
-    match words {
-        None => Some(Line::Open),
-        Some(_) => None,
-    }
+    words.word("open")?;
+    words.end()?;
+    Some(Line::Open)
 }
 
-#[tactic(auto, using(crate::proofs::ReadLaws::no_end), unfolding(crate::specs::Read::settle_line))]
-fn settle_line(words: Option<&[u8]>) -> Option<Line>
-    ensures { result ≡ settle_line (parts_after 32 words.entry) }
+#[tactic(auto, unfolding(crate::specs::Read::settle_line))]
+fn settle_line(mut words: Parts<'_>) -> Option<Line>
+    ensures { result ≡ settle_line words.entry }
 {
-    let (wire, words) = next_number(words, b' ', u64::MAX)?;
-    match words {
-        None => Some(Line::Entry {
-            wire: wire,
-            entry: EntryLine::Settle,
-        }),
-        Some(_) => None,
-    }
+    let wire = words.next_u64()?;
+    words.end()?;
+    Some(Line::Entry {
+        wire,
+        entry: EntryLine::Settle,
+    })
 }
 
-#[tactic(auto, using(crate::proofs::ReadLaws::no_end), unfolding(crate::specs::Read::ring_line))]
-fn ring_line(words: Option<&[u8]>) -> Option<Line>
-    ensures { result ≡ ring_line (parts_after 32 words.entry) }
+#[tactic(auto, unfolding(crate::specs::Read::ring_line))]
+fn ring_line(mut words: Parts<'_>) -> Option<Line>
+    ensures { result ≡ ring_line words.entry }
 {
-    let (core, words) = next_number(words, b' ', u64::MAX)?;
-    let words = next_word(words, "posted")?;
-    let (posted, words) = next_number(words, b' ', MAX32)?;
-    let words = next_word(words, "frames")?;
-    let (frames, words) = next_number(words, b' ', MAX32)?;
-    let words = next_word(words, "items")?;
-    let (items, words) = next_number(words, b' ', MAX32)?;
-    match words {
-        None => Some(Line::Ring {
-            core: core,
-            ring: RingLine {
-                posted: posted as u32,
-                frames: frames as u32,
-                items: items as u32,
-            },
-        }),
-        Some(_) => None,
-    }
+    let core = words.next_u64()?;
+    let posted = words.named_u32("posted")?;
+    let frames = words.named_u32("frames")?;
+    let items = words.named_u32("items")?;
+    words.end()?;
+    let ring = RingLine {
+        posted,
+        frames,
+        items,
+    };
+    Some(Line::Ring { core, ring })
 }
 
-#[tactic(auto, using(crate::proofs::ReadLaws::no_end), unfolding(crate::specs::Read::home_line))]
-fn home_line(words: Option<&[u8]>) -> Option<Line>
-    ensures { result ≡ home_line (parts_after 32 words.entry) }
+#[tactic(auto, unfolding(crate::specs::Read::home_line))]
+fn home_line(mut words: Parts<'_>) -> Option<Line>
+    ensures { result ≡ home_line words.entry }
 {
-    let (core, words) = next_number(words, b' ', u64::MAX)?;
-    let words = next_word(words, "pool")?;
-    let (pool, words) = next_number(words, b' ', MAX32)?;
-    let words = next_word(words, "posted")?;
-    let (posted, words) = next_number(words, b' ', MAX32)?;
-    let words = next_word(words, "desk")?;
-    let (desk, words) = next_number(words, b' ', MAX32)?;
-    let words = next_word(words, "held")?;
-    let (held, words) = next_number(words, b' ', MAX32)?;
-    let words = next_word(words, "app")?;
-    let (app, words) = next_number(words, b' ', MAX32)?;
-    let words = next_word(words, "queue")?;
-    let (queue, words) = next_number(words, b' ', MAX32)?;
-    match words {
-        None => Some(Line::Home {
-            core: core,
-            home: HomeLine {
-                pool: pool as u32,
-                posted: posted as u32,
-                desk: desk as u32,
-                held: held as u32,
-                app: app as u32,
-                queue: queue as u32,
-            },
-        }),
-        Some(_) => None,
-    }
+    let core = words.next_u64()?;
+    let pool = words.named_u32("pool")?;
+    let posted = words.named_u32("posted")?;
+    let desk = words.named_u32("desk")?;
+    let held = words.named_u32("held")?;
+    let app = words.named_u32("app")?;
+    let queue = words.named_u32("queue")?;
+    words.end()?;
+    let home = HomeLine {
+        pool,
+        posted,
+        desk,
+        held,
+        app,
+        queue,
+    };
+    Some(Line::Home { core, home })
 }
 
-#[tactic(auto, using(crate::proofs::ReadLaws::no_end), unfolding(crate::specs::Read::answered_line))]
-fn answered_line(words: Option<&[u8]>) -> Option<Line>
-    ensures { result ≡ answered_line (parts_after 32 words.entry) }
+#[tactic(auto, unfolding(crate::specs::Read::answered_line))]
+fn answered_line(mut words: Parts<'_>) -> Option<Line>
+    ensures { result ≡ answered_line words.entry }
 {
-    let (peer, words) = next_number(words, b' ', u64::MAX)?;
-    let (answer, words) = next_connect_answer(words)?;
-    match words {
-        None => Some(Line::Connect {
-            peer: peer,
-            answer: answer,
-        }),
-        Some(_) => None,
-    }
+    let peer = words.next_u64()?;
+    let answer = connect_answer_of(words.next_part()?)?;
+    words.end()?;
+    Some(Line::Connect { peer, answer })
 }
 
-#[tactic(auto, using(crate::proofs::ReadLaws::no_end), unfolding(crate::specs::Read::time_line))]
-fn time_line(words: Option<&[u8]>) -> Option<Line>
-    ensures { result ≡ time_line (parts_after 32 words.entry) }
+#[tactic(auto, unfolding(crate::specs::Read::time_line))]
+fn time_line(mut words: Parts<'_>) -> Option<Line>
+    ensures { result ≡ time_line words.entry }
 {
-    let (wire, words) = next_number(words, b' ', u64::MAX)?;
-    let (t, words) = next_number(words, b' ', MAX32)?;
-    match words {
-        None => Some(Line::Entry {
-            wire: wire,
-            entry: EntryLine::Time { t: t as u32 },
-        }),
-        Some(_) => None,
-    }
+    let wire = words.next_u64()?;
+    let t = words.next_u32()?;
+    words.end()?;
+    Some(Line::Entry {
+        wire,
+        entry: EntryLine::Time { t },
+    })
 }
 
-#[tactic(auto, using(crate::proofs::ReadLaws::no_end), unfolding(crate::specs::Read::tag_line))]
-fn tag_line(words: Option<&[u8]>) -> Option<Line>
-    ensures { result ≡ tag_line (parts_after 32 words.entry) }
+#[tactic(auto, unfolding(crate::specs::Read::tag_line))]
+fn tag_line(mut words: Parts<'_>) -> Option<Line>
+    ensures { result ≡ tag_line words.entry }
 {
-    let (wire, words) = next_number(words, b' ', u64::MAX)?;
-    let (group, words) = next_number(words, b' ', LAST_GROUP)?;
-    match words {
-        None => Some(Line::Entry {
-            wire: wire,
-            entry: EntryLine::Tag {
-                group: GroupId(group as u16),
-            },
-        }),
-        Some(_) => None,
-    }
+    let wire = words.next_u64()?;
+    let group = next_group(&mut words)?;
+    words.end()?;
+    Some(Line::Entry {
+        wire,
+        entry: EntryLine::Tag { group },
+    })
 }
 
-#[tactic(auto, using(crate::proofs::ReadLaws::no_end), unfolding(crate::specs::Read::move_line))]
-fn move_line(words: Option<&[u8]>) -> Option<Line>
-    ensures { result ≡ move_line (parts_after 32 words.entry) }
+#[tactic(auto, unfolding(crate::specs::Read::move_line))]
+fn move_line(mut words: Parts<'_>) -> Option<Line>
+    ensures { result ≡ move_line words.entry }
 {
-    let (wire, words) = next_number(words, b' ', u64::MAX)?;
-    let (group, words) = next_number(words, b' ', LAST_GROUP)?;
-    let (to, words) = next_number(words, b' ', MAX8)?;
-    match words {
-        None => Some(Line::Entry {
-            wire: wire,
-            entry: EntryLine::Move {
-                group: GroupId(group as u16),
-                to: CoreId(to as u8),
-            },
-        }),
-        Some(_) => None,
-    }
+    let wire = words.next_u64()?;
+    let group = next_group(&mut words)?;
+    let to = CoreId(words.next_u8()?);
+    words.end()?;
+    Some(Line::Entry {
+        wire,
+        entry: EntryLine::Move { group, to },
+    })
 }
 
-#[tactic(auto, using(crate::proofs::ReadLaws::no_end), unfolding(crate::specs::Read::frame_line))]
-fn frame_line(words: Option<&[u8]>) -> Option<Line>
-    ensures { result ≡ frame_line (parts_after 32 words.entry) }
+#[tactic(auto, unfolding(crate::specs::Read::frame_line))]
+fn frame_line(mut words: Parts<'_>) -> Option<Line>
+    ensures { result ≡ frame_line words.entry }
 {
-    let (wire, words) = next_number(words, b' ', u64::MAX)?;
-    let words = next_word(words, "rec")?;
-    let (rec, words) = next_number(words, b' ', MAX32)?;
-    let words = next_word(words, "at")?;
-    let (at, words) = next_number(words, b' ', MAX32)?;
-    let words = next_word(words, "group")?;
-    let (group, words) = next_number(words, b' ', LAST_GROUP)?;
-    let words = next_word(words, "ring")?;
-    let (ring, words) = next_number(words, b' ', MAX8)?;
+    let wire = words.next_u64()?;
+    let rec = words.named_u32("rec")?;
+    let at = words.named_u32("at")?;
+    let group = named_group(&mut words)?;
+    let ring = CoreId(words.named_u8("ring")?);
     let fate = fate_of(words)?;
     Some(Line::Entry {
-        wire: wire,
+        wire,
         entry: EntryLine::Frame {
-            rec: rec as u32,
-            at: at as u32,
-            group: GroupId(group as u16),
-            ring: CoreId(ring as u8),
-            fate: fate,
+            rec,
+            at,
+            group,
+            ring,
+            fate,
         },
     })
 }
 
-#[tactic(auto, using(crate::proofs::ReadLaws::no_end), unfolding(crate::specs::Read::stray_line))]
-fn stray_line(words: Option<&[u8]>) -> Option<Line>
-    ensures { result ≡ stray_line (parts_after 32 words.entry) }
+#[tactic(auto, unfolding(crate::specs::Read::stray_line))]
+fn stray_line(mut words: Parts<'_>) -> Option<Line>
+    ensures { result ≡ stray_line words.entry }
 {
-    let (w, words) = next_number(words, b' ', MAX32)?;
-    let words = next_word(words, "core")?;
-    let (core, words) = next_number(words, b' ', MAX8)?;
-    let (kind, words) = next_kind(words)?;
-    let words = next_word(words, "reply")?;
-    let (reply, words) = next_reply(words)?;
-    match words {
-        None => Some(Line::Stray(StrayLine {
-            w: WireNo(w as u32),
-            core: CoreId(core as u8),
-            kind: kind,
-            reply: reply,
-        })),
-        Some(_) => None,
-    }
+    let w = WireNo(words.next_u32()?);
+    let core = CoreId(words.named_u8("core")?);
+    let kind = next_kind(&mut words)?;
+    words.word("reply")?;
+    let reply = reply_number_of(words.next_part()?)?;
+    words.end()?;
+    Some(Line::Stray(StrayLine {
+        w,
+        core,
+        kind,
+        reply,
+    }))
 }
 
-#[tactic(auto, using(crate::proofs::ReadLaws::no_end), unfolding(crate::specs::Read::conn_line))]
-fn conn_line(words: Option<&[u8]>) -> Option<Line>
-    ensures { result ≡ conn_line (parts_after 32 words.entry) }
+#[tactic(auto, unfolding(crate::specs::Read::conn_line))]
+fn conn_line(mut words: Parts<'_>) -> Option<Line>
+    ensures { result ≡ conn_line words.entry }
 {
-    let (group, words) = next_number(words, b' ', LAST_GROUP)?;
-    let (order, words) = next_number(words, b' ', u64::MAX)?;
-    let words = next_word(words, "remote")?;
-    let (remote, words) = next_dotted(words)?;
-    let (remote_port, words) = next_number(words, b' ', MAX16)?;
-    let words = next_word(words, "local")?;
-    let (local_port, words) = next_number(words, b' ', MAX16)?;
-    let words = next_word(words, "iss")?;
-    let (iss, words) = next_hex(words)?;
-    match words {
-        None => Some(Line::Conn {
-            order: order,
-            opening: Opening {
-                group: GroupId(group as u16),
-                remote: remote,
-                remote_port: remote_port as u16,
-                local_port: local_port as u16,
-                iss: iss,
-            },
-        }),
-        Some(_) => None,
-    }
+    let group = next_group(&mut words)?;
+    let order = words.next_u64()?;
+    let remote = words.named_address("remote")?;
+    let remote_port = words.next_u16()?;
+    let local_port = words.named_u16("local")?;
+    let iss = words.named_hex("iss")?;
+    words.end()?;
+    let opening = Opening {
+        group,
+        remote,
+        remote_port,
+        local_port,
+        iss,
+    };
+    Some(Line::Conn { order, opening })
 }
 
-#[tactic(auto, using(crate::proofs::ReadLaws::no_end), unfolding(crate::specs::Read::seg_line))]
-fn seg_line(words: Option<&[u8]>) -> Option<Line>
-    ensures { result ≡ seg_line (parts_after 32 words.entry) }
+#[tactic(auto, unfolding(crate::specs::Read::seg_line))]
+fn seg_line(mut words: Parts<'_>) -> Option<Line>
+    ensures { result ≡ seg_line words.entry }
 {
-    let (w, words) = next_number(words, b' ', MAX32)?;
-    let words = next_word(words, "core")?;
-    let (core, words) = next_number(words, b' ', MAX8)?;
-    match words {
-        None => Some(Line::Input(InputKind::Seg {
-            w: WireNo(w as u32),
-            core: CoreId(core as u8),
-        })),
-        Some(_) => None,
-    }
+    let w = WireNo(words.next_u32()?);
+    let core = CoreId(words.named_u8("core")?);
+    words.end()?;
+    Some(Line::Input(InputKind::Seg { w, core }))
 }
 
-#[tactic(auto, using(crate::proofs::ReadLaws::no_end), unfolding(crate::specs::Read::timer_line))]
-fn timer_line(words: Option<&[u8]>) -> Option<Line>
-    ensures { result ≡ timer_line (parts_after 32 words.entry) }
+#[tactic(auto, unfolding(crate::specs::Read::timer_line))]
+fn timer_line(mut words: Parts<'_>) -> Option<Line>
+    ensures { result ≡ timer_line words.entry }
 {
-    let (t, words) = next_number(words, b' ', u64::MAX)?;
-    match words {
-        None => Some(Line::Input(InputKind::Timer { t: t })),
-        Some(_) => None,
-    }
+    let t = words.next_u64()?;
+    words.end()?;
+    Some(Line::Input(InputKind::Timer { t }))
 }
 
-#[tactic(auto, using(crate::proofs::ReadLaws::no_end), unfolding(crate::specs::Read::sendv_line))]
-fn sendv_line(words: Option<&[u8]>) -> Option<Line>
-    ensures { result ≡ sendv_line (parts_after 32 words.entry) }
+#[tactic(auto, unfolding(crate::specs::Read::sendv_line))]
+fn sendv_line(mut words: Parts<'_>) -> Option<Line>
+    ensures { result ≡ sendv_line words.entry }
 {
-    let (n, words) = next_number(words, b' ', u64::MAX)?;
-    match words {
-        None => Some(Line::Input(InputKind::Sendv { n: n })),
-        Some(_) => None,
-    }
+    let n = words.next_u64()?;
+    words.end()?;
+    Some(Line::Input(InputKind::Sendv { n }))
 }
 
-#[tactic(auto, using(crate::proofs::ReadLaws::no_end), unfolding(crate::specs::Read::recv_done_line))]
-fn recv_done_line(words: Option<&[u8]>) -> Option<Line>
-    ensures { result ≡ recv_done_line (parts_after 32 words.entry) }
+#[tactic(auto, unfolding(crate::specs::Read::recv_done_line))]
+fn recv_done_line(mut words: Parts<'_>) -> Option<Line>
+    ensures { result ≡ recv_done_line words.entry }
 {
-    let (n, words) = next_number(words, b' ', MAX32)?;
-    match words {
-        None => Some(Line::Input(InputKind::RecvDone { n: n as u32 })),
-        Some(_) => None,
-    }
+    let n = words.next_u32()?;
+    words.end()?;
+    Some(Line::Input(InputKind::RecvDone { n }))
 }
 
-#[tactic(auto, using(crate::proofs::ReadLaws::no_end), unfolding(crate::specs::Read::flush_line))]
-fn flush_line(words: Option<&[u8]>) -> Option<Line>
-    ensures { result ≡ flush_line (parts_after 32 words.entry) }
+#[tactic(auto, unfolding(crate::specs::Read::flush_line))]
+fn flush_line(mut words: Parts<'_>) -> Option<Line>
+    ensures { result ≡ flush_line words.entry }
 {
-    let (w, words) = next_number(words, b' ', MAX32)?;
-    match words {
-        None => Some(Line::Input(InputKind::Flush {
-            w: WireNo(w as u32),
-        })),
-        Some(_) => None,
-    }
+    let w = WireNo(words.next_u32()?);
+    words.end()?;
+    Some(Line::Input(InputKind::Flush { w }))
 }
 
-#[tactic(auto, using(crate::proofs::ReadLaws::no_end), unfolding(crate::specs::Read::reply_line))]
-fn reply_line(words: Option<&[u8]>) -> Option<Line>
-    ensures { result ≡ reply_line (parts_after 32 words.entry) }
+#[tactic(auto, unfolding(crate::specs::Read::reply_line))]
+fn reply_line(mut words: Parts<'_>) -> Option<Line>
+    ensures { result ≡ reply_line words.entry }
 {
-    let (n, words) = next_number(words, b' ', MAX32)?;
-    match words {
-        None => Some(Line::Output(OutputLine::Reply(n as u32))),
-        Some(_) => None,
-    }
+    let n = words.next_u32()?;
+    words.end()?;
+    Some(Line::Output(OutputLine::Reply(n)))
 }
 
-#[tactic(auto, using(crate::proofs::ReadLaws::no_end), unfolding(crate::specs::Read::done_line))]
-fn done_line(words: Option<&[u8]>) -> Option<Line>
-    ensures { result ≡ done_line (parts_after 32 words.entry) }
+#[tactic(auto, unfolding(crate::specs::Read::done_line))]
+fn done_line(mut words: Parts<'_>) -> Option<Line>
+    ensures { result ≡ done_line words.entry }
 {
-    let words = next_word(words, "done")?;
-    let (n, words) = next_number(words, b' ', MAX32)?;
-    match words {
-        None => Some(Line::Output(OutputLine::Ret(RetLine::Done(n as u32)))),
-        Some(_) => None,
-    }
+    let n = words.named_u32("done")?;
+    words.end()?;
+    Some(Line::Output(OutputLine::Ret(RetLine::Done(n))))
 }
 
-#[tactic(auto, using(crate::proofs::ReadLaws::no_end), unfolding(crate::specs::Read::refused_line))]
-fn refused_line(words: Option<&[u8]>) -> Option<Line>
-    ensures { result ≡ refused_line (parts_after 32 words.entry) }
+#[tactic(auto, unfolding(crate::specs::Read::refused_line))]
+fn refused_line(mut words: Parts<'_>) -> Option<Line>
+    ensures { result ≡ refused_line words.entry }
 {
-    let (ret, words) = next_refusal(words)?;
-    match words {
-        None => Some(Line::Output(OutputLine::Ret(ret))),
-        Some(_) => None,
-    }
+    let ret = refusal_of(words.next_part()?)?;
+    words.end()?;
+    Some(Line::Output(OutputLine::Ret(ret)))
 }
 
-#[tactic(auto, using(crate::proofs::ReadLaws::no_end), unfolding(crate::specs::Read::connected_line))]
-fn connected_line(words: Option<&[u8]>) -> Option<Line>
-    ensures { result ≡ connected_line (parts_after 32 words.entry) }
+#[tactic(auto, unfolding(crate::specs::Read::connected_line))]
+fn connected_line(mut words: Parts<'_>) -> Option<Line>
+    ensures { result ≡ connected_line words.entry }
 {
-    let (outcome, words) = next_connected(words)?;
-    match words {
-        None => Some(Line::Output(outcome)),
-        Some(_) => None,
-    }
+    let outcome = connected_of(words.next_part()?)?;
+    words.end()?;
+    Some(Line::Output(outcome))
 }
 
-#[tactic(auto, using(crate::proofs::ReadLaws::no_end), unfolding(crate::specs::Read::ended_line))]
-fn ended_line(words: Option<&[u8]>) -> Option<Line>
-    ensures { result ≡ ended_line (parts_after 32 words.entry) }
+#[tactic(auto, unfolding(crate::specs::Read::ended_line))]
+fn ended_line(mut words: Parts<'_>) -> Option<Line>
+    ensures { result ≡ ended_line words.entry }
 {
-    let words = next_word(words, "end")?;
-    match words {
-        None => Some(Line::Output(OutputLine::RecvEnd)),
-        Some(_) => None,
-    }
+    words.word("end")?;
+    words.end()?;
+    Some(Line::Output(OutputLine::RecvEnd))
 }
 
-#[tactic(auto, using(crate::proofs::ReadLaws::no_end), unfolding(crate::specs::Read::recv_line))]
-fn recv_line(words: Option<&[u8]>) -> Option<Line>
-    ensures { result ≡ recv_line (parts_after 32 words.entry) }
+#[tactic(auto, unfolding(crate::specs::Read::recv_line))]
+fn recv_line(mut words: Parts<'_>) -> Option<Line>
+    ensures { result ≡ recv_line words.entry }
 {
-    let ((home, slot), words) = next_place(words, MAX8, MAX32)?;
-    let (from, words) = next_number(words, b' ', MAX16)?;
-    let (len, words) = next_number(words, b' ', MAX16)?;
-    match words {
-        None => Some(Line::Output(OutputLine::Recv {
-            buf: BufId {
-                home: CoreId(home as u8),
-                slot: slot as u32,
-            },
-            from: from as u16,
-            len: len as u16,
-        })),
-        Some(_) => None,
-    }
+    let buf = next_buf(&mut words)?;
+    let from = words.next_u16()?;
+    let len = words.next_u16()?;
+    words.end()?;
+    Some(Line::Output(OutputLine::Recv { buf, from, len }))
 }
 
-#[tactic(auto, using(crate::proofs::ReadLaws::no_end), unfolding(crate::specs::Read::sent_line))]
-fn sent_line(words: Option<&[u8]>) -> Option<Line>
-    ensures { result ≡ sent_line (parts_after 32 words.entry) }
+#[tactic(auto, unfolding(crate::specs::Read::sent_line))]
+fn sent_line(mut words: Parts<'_>) -> Option<Line>
+    ensures { result ≡ sent_line words.entry }
 {
-    let (bytes, words) = next_number(words, b' ', MAX32)?;
-    let (window, words) = next_number(words, b' ', MAX32)?;
-    match words {
-        None => Some(Line::Output(OutputLine::Sent {
-            bytes: bytes as u32,
-            window: window as u32,
-        })),
-        Some(_) => None,
-    }
+    let bytes = words.next_u32()?;
+    let window = words.next_u32()?;
+    words.end()?;
+    Some(Line::Output(OutputLine::Sent { bytes, window }))
 }
 
-#[tactic(auto, using(crate::proofs::ReadLaws::no_end), unfolding(crate::specs::Read::dead_line))]
-fn dead_line(words: Option<&[u8]>) -> Option<Line>
-    ensures { result ≡ dead_line (parts_after 32 words.entry) }
+#[tactic(auto, unfolding(crate::specs::Read::dead_line))]
+fn dead_line(mut words: Parts<'_>) -> Option<Line>
+    ensures { result ≡ dead_line words.entry }
 {
-    let (outcome, words) = next_dead(words)?;
-    match words {
-        None => Some(Line::Output(outcome)),
-        Some(_) => None,
-    }
+    let outcome = dead_of(words.next_part()?)?;
+    words.end()?;
+    Some(Line::Output(outcome))
 }
 
-#[tactic(auto, using(crate::proofs::ReadLaws::no_end), unfolding(crate::specs::Read::left_line))]
-fn left_line(words: Option<&[u8]>) -> Option<Line>
-    ensures { result ≡ left_line (parts_after 32 words.entry) }
+#[tactic(auto, unfolding(crate::specs::Read::left_line))]
+fn left_line(mut words: Parts<'_>) -> Option<Line>
+    ensures { result ≡ left_line words.entry }
 {
-    let (state, words) = next_state(words)?;
-    let words = next_word(words, "una")?;
-    let (una, words) = next_number(words, b' ', u64::MAX)?;
-    let words = next_word(words, "nxt")?;
-    let (nxt, words) = next_number(words, b' ', u64::MAX)?;
-    let words = next_word(words, "rcv")?;
-    let (rcv, words) = next_number(words, b' ', u64::MAX)?;
-    let words = next_word(words, "cwnd")?;
-    let (cwnd, words) = next_number(words, b' ', MAX32)?;
-    let words = next_word(words, "ssthresh")?;
-    let (ssthresh, words) = next_number(words, b' ', MAX32)?;
-    match words {
-        None => Some(Line::Left(Left {
-            state: state,
-            una: una,
-            nxt: nxt,
-            rcv: rcv,
-            cwnd: cwnd as u32,
-            ssthresh: ssthresh as u32,
-        })),
-        Some(_) => None,
-    }
+    let state = state_of(words.next_part()?)?;
+    let una = words.named_u64("una")?;
+    let nxt = words.named_u64("nxt")?;
+    let rcv = words.named_u64("rcv")?;
+    let cwnd = words.named_u32("cwnd")?;
+    let ssthresh = words.named_u32("ssthresh")?;
+    words.end()?;
+    Some(Line::Left(Left {
+        state,
+        una,
+        nxt,
+        rcv,
+        cwnd,
+        ssthresh,
+    }))
 }
 
-#[tactic(auto, using(crate::proofs::ReadLaws::no_end), unfolding(crate::specs::Read::answer_line))]
-fn answer_line(words: Option<&[u8]>) -> Option<Line>
-    ensures { result ≡ answer_line (parts_after 32 words.entry) }
+#[tactic(auto, unfolding(crate::specs::Read::answer_line))]
+fn answer_line(mut words: Parts<'_>) -> Option<Line>
+    ensures { result ≡ answer_line words.entry }
 {
-    let words = next_word(words, "wrote")?;
-    let (wrote, words) = next_number(words, b' ', u64::MAX)?;
-    let words = next_word(words, "taken")?;
-    let (taken, words) = next_number(words, b' ', u64::MAX)?;
-    match words {
-        None => Some(Line::Answer {
-            wrote: wrote,
-            taken: taken,
-        }),
-        Some(_) => None,
-    }
+    let wrote = words.named_u64("wrote")?;
+    let taken = words.named_u64("taken")?;
+    words.end()?;
+    Some(Line::Answer { wrote, taken })
 }
 
-#[tactic(auto, using(crate::proofs::ReadLaws::no_end), unfolding(crate::specs::Read::closed_line))]
-fn closed_line(words: Option<&[u8]>) -> Option<Line>
-    ensures { result ≡ closed_line (parts_after 32 words.entry) }
+#[tactic(auto, unfolding(crate::specs::Read::closed_line))]
+fn closed_line(mut words: Parts<'_>) -> Option<Line>
+    ensures { result ≡ closed_line words.entry }
 {
-    let (core, words) = next_number(words, b' ', u64::MAX)?;
-    let words = next_word(words, "pool")?;
-    let (pool, words) = next_number(words, b' ', MAX32)?;
-    match words {
-        None => Some(Line::Closed {
-            core: core,
-            pool: pool as u32,
-        }),
-        Some(_) => None,
-    }
+    let core = words.next_u64()?;
+    let pool = words.named_u32("pool")?;
+    words.end()?;
+    Some(Line::Closed { core, pool })
 }
 
-#[tactic(auto, using(crate::proofs::ReadLaws::no_end), unfolding(crate::specs::Read::end_line))]
-fn end_line(words: Option<&[u8]>) -> Option<Line>
-    ensures { result ≡ end_line (parts_after 32 words.entry) }
+#[tactic(auto, unfolding(crate::specs::Read::end_line))]
+fn end_line(mut words: Parts<'_>) -> Option<Line>
+    ensures { result ≡ end_line words.entry }
 {
-    let words = next_word(words, "replies")?;
-    let (replies, words) = next_number(words, b' ', MAX32)?;
-    let words = next_word(words, "drops")?;
-    let (drops, words) = next_number(words, b' ', MAX32)?;
-    match words {
-        None => Some(Line::End {
-            replies: replies as u32,
-            drops: drops as u32,
-        }),
-        Some(_) => None,
-    }
+    let replies = words.named_u32("replies")?;
+    let drops = words.named_u32("drops")?;
+    words.end()?;
+    Some(Line::End { replies, drops })
 }
 
-#[tactic(auto, using(crate::proofs::ReadLaws::no_end), unfolding(crate::specs::Read::call_line))]
-fn call_line(words: Option<&[u8]>) -> Option<Line>
-    ensures { result ≡ call_line (parts_after 32 words.entry) }
+// A line, where no word is left.
+fn last(words: Parts<'_>, line: Line) -> Option<Line>
+    ensures { result ≡ at_end words.entry line }
 {
-    let bytes = words?;
-    let (word, words) = split_part(bytes, b' ');
+    words.end()?;
+    Some(line)
+}
+
+#[tactic(auto, unfolding(crate::specs::Read::call_line))]
+fn call_line(mut words: Parts<'_>) -> Option<Line>
+    ensures { result ≡ call_line words.entry }
+{
+    let word = words.next_part()?;
     if word == b"accept".as_slice() {
         last(words, Line::Input(InputKind::Accept))
     } else if word == b"sendv".as_slice() {
@@ -591,29 +482,17 @@ fn call_line(words: Option<&[u8]>) -> Option<Line>
     }
 }
 
-// A line, where no word is left.
-#[tactic(auto, using(crate::proofs::ReadLaws::no_end))]
-fn last(words: Option<&[u8]>, line: Line) -> Option<Line>
-    ensures { result ≡ at_end (parts_after 32 words.entry) line }
-{
-    match words {
-        None => Some(line),
-        Some(_) => None,
-    }
-}
-
 #[tactic(auto, unfolding(crate::specs::Read::event_line))]
-fn event_line(words: Option<&[u8]>) -> Option<Line>
-    ensures { result ≡ event_line (parts_after 32 words.entry) }
+fn event_line(mut words: Parts<'_>) -> Option<Line>
+    ensures { result ≡ event_line words.entry }
 {
-    let bytes = words?;
-    let (word, words) = split_part(bytes, b' ');
+    let word = words.next_part()?;
     if word == b"knock".as_slice() {
         last(words, Line::Output(OutputLine::Knock))
     } else if word == b"connected".as_slice() {
         connected_line(words)
     } else if word == b"recv".as_slice() {
-        match ended_line(words) {
+        match ended_line(words.fork()) {
             Some(line) => Some(line),
             None => recv_line(words),
         }
@@ -628,8 +507,8 @@ fn event_line(words: Option<&[u8]>) -> Option<Line>
 
 // A line of a connection's journal.
 #[tactic(auto, unfolding(crate::specs::Read::journal_line))]
-fn journal_line(verb: &[u8], words: Option<&[u8]>) -> Option<Line>
-    ensures { result ≡ journal_line verb.now (parts_after 32 words.entry) }
+fn journal_line(verb: &[u8], words: Parts<'_>) -> Option<Line>
+    ensures { result ≡ journal_line verb.now words.entry }
 {
     if verb == b"seg".as_slice() {
         seg_line(words)
@@ -638,7 +517,7 @@ fn journal_line(verb: &[u8], words: Option<&[u8]>) -> Option<Line>
     } else if verb == b"call".as_slice() {
         call_line(words)
     } else if verb == b"ret".as_slice() {
-        match done_line(words) {
+        match done_line(words.fork()) {
             Some(line) => Some(line),
             None => refused_line(words),
         }
@@ -655,8 +534,8 @@ fn journal_line(verb: &[u8], words: Option<&[u8]>) -> Option<Line>
 
 // A line of a settle or of an entry.
 #[tactic(auto, unfolding(crate::specs::Read::entry_line))]
-fn entry_line(verb: &[u8], words: Option<&[u8]>) -> Option<Line>
-    ensures { result ≡ entry_line verb.now (parts_after 32 words.entry) }
+fn entry_line(verb: &[u8], words: Parts<'_>) -> Option<Line>
+    ensures { result ≡ entry_line verb.now words.entry }
 {
     if verb == b"frame".as_slice() {
         frame_line(words)
@@ -667,7 +546,7 @@ fn entry_line(verb: &[u8], words: Option<&[u8]>) -> Option<Line>
     } else if verb == b"move".as_slice() {
         move_line(words)
     } else if verb == b"settle".as_slice() {
-        match open_line(words) {
+        match open_line(words.fork()) {
             Some(line) => Some(line),
             None => settle_line(words),
         }
@@ -681,13 +560,13 @@ fn entry_line(verb: &[u8], words: Option<&[u8]>) -> Option<Line>
 }
 
 #[tactic(auto, unfolding(crate::specs::Read::by_verb))]
-fn by_verb(verb: &[u8], words: Option<&[u8]>) -> Option<Line>
-    ensures { result ≡ by_verb verb.now (parts_after 32 words.entry) }
+fn by_verb(verb: &[u8], words: Parts<'_>) -> Option<Line>
+    ensures { result ≡ by_verb verb.now words.entry }
 {
     if verb == b"head".as_slice() {
         head_line(words)
     } else if verb == b"connect".as_slice() {
-        match last(words, Line::Input(InputKind::Connect)) {
+        match last(words.fork(), Line::Input(InputKind::Connect)) {
             Some(line) => Some(line),
             None => answered_line(words),
         }
@@ -712,6 +591,7 @@ fn by_verb(verb: &[u8], words: Option<&[u8]>) -> Option<Line>
 pub fn line_read(bytes: &[u8]) -> Option<Line>
     ensures read { result ≡ line_read bytes.now }
 {
-    let (verb, words) = split_part(bytes, b' ');
+    let mut words = Parts::of(bytes, b' ');
+    let verb = words.next_part()?;
     by_verb(verb, words)
 }

@@ -8,14 +8,14 @@ use Rattle.ix_groupdef.specs.Group.{Cycle, Frames, Group, Connect, run}
 use Rattle.ix_groupdef.specs.Setting.{Setting}
 use Rattle.ix_playdef.specs.declared.wire.Given.{Given}
 use Rattle.ix_playdef.specs.declared.wire.Given.TheVariants.{Frame}
-use Rattle.ix_playdef.specs.declared.wire.TheConstants.{MAX_FRAME}
+use Rattle.ix_base.specs.declared.id.TheConstants.{BUFFER_BYTES}
 use Rattle.ix_playdef.specs.Wire.{cycle_by, cycles_of}
 
 pub short-cycle : (core : CoreId) (taken : Taken) → length taken.frame ≤ 2048 → cycle_by core (Frame taken) ≡ Frames core (taken ∷ []) ∷ []
-short-cycle core taken le = let no : nat_lt MAX_FRAME (length taken.frame) ≡ false = grind (arith, nat_tests) in ap (λ (b : Bool). if b then [] else Frames core (taken ∷ []) ∷ []) no
+short-cycle core taken le = let no : nat_lt BUFFER_BYTES (length taken.frame) ≡ false = grind (arith, nat_tests) in ap (λ (b : Bool). if b then [] else Frames core (taken ∷ []) ∷ []) no
 
 pub long-cycle : (core : CoreId) (taken : Taken) → 2048 < length taken.frame → cycle_by core (Frame taken) ≡ []
-long-cycle core taken lt = let yes : nat_lt MAX_FRAME (length taken.frame) ≡ true = grind (arith, nat_tests) in ap (λ (b : Bool). if b then [] else Frames core (taken ∷ []) ∷ []) yes
+long-cycle core taken lt = let yes : nat_lt BUFFER_BYTES (length taken.frame) ≡ true = grind (arith, nat_tests) in ap (λ (b : Bool). if b then [] else Frames core (taken ∷ []) ∷ []) yes
 
 pub ruleset for_one = (short-cycle, long-cycle, append-nil)
 

@@ -11,3 +11,4 @@ pub mod GroupLaws
 pub mod Keys
 pub mod Distinct
 pub mod Numbers
+pub mod SoundLaws

@@ -36,7 +36,7 @@ use Rattle.ix_playdef.specs.Replies.{IsShortIfAny, IsShortlyAnswered}
 use Rattle.ix_playdef.specs.Wire.{cycle_by, cycles_of}
 use Rattle.ix_playdef.specs.declared.wire.Given.{Given}
 use Rattle.ix_playdef.specs.declared.wire.Given.TheVariants.{Frame, Time}
-use Rattle.ix_playdef.specs.declared.wire.TheConstants.{MAX_FRAME}
+use Rattle.ix_base.specs.declared.id.TheConstants.{BUFFER_BYTES}
 
 -- ## Lengths of what is put together
 small : (n : ℕ) → n ≤ 4096 → n < 2 ^ 32
@@ -177,13 +177,13 @@ udp-long src dst d = omega (arith, length-drop 8 d)
 icmp-short : PayloadsLieWithin → (local : Local) (frame : List ℕ) (e : Ethernet) (p : Packet) → length local.mac ≤ 6 → length frame ≤ 2048 → ArePartsOf frame e → packet_of e.rest ≡ Ok p
     → length (icmp_answer e p local) < 2 ^ 32
 icmp-short within local frame e p m f is read =
-    small _ (omega (arith, framed-long e.src local.mac (icmp_reply p.payload) 0x0800 local.ip p.src 1 (20 + length (icmp_reply p.payload)) is.src m, icmp-long p.payload, within e.rest p read, is.rest, f))
+    small _ (omega (arith, framed-long e.src local.mac (icmp_reply p.payload) 0x0800 local.ip p.src 1 (20 + length (icmp_reply p.payload)) is.src m, icmp-long p.payload, (within e.rest p read).within, (within e.rest p read).behind, is.rest, f))
 
 udp-short : PayloadsLieWithin → (local : Local) (frame : List ℕ) (e : Ethernet) (p : Packet) → length local.mac ≤ 6 → length frame ≤ 2048 → ArePartsOf frame e → packet_of e.rest ≡ Ok p
     → length (udp_answer e p local) < 2 ^ 32
 udp-short within local frame e p m f is read =
     let reply : List ℕ = udp_reply local.ip p.src (datagram_of p.payload) in
-    small _ (omega (arith, framed-long e.src local.mac reply 0x0800 local.ip p.src 17 (20 + length reply) is.src m, udp-long local.ip p.src (datagram_of p.payload), length-take (datagram_len p.payload) p.payload, within e.rest p read, is.rest, f))
+    small _ (omega (arith, framed-long e.src local.mac reply 0x0800 local.ip p.src 17 (20 + length reply) is.src m, udp-long local.ip p.src (datagram_of p.payload), length-take (datagram_len p.payload) p.payload, (within e.rest p read).within, (within e.rest p read).behind, is.rest, f))
 
 abbrev IsShortEcho : (Ethernet → Packet → Local → List ℕ) → Local → List ℕ → Type 0
 IsShortEcho answer local frame = (e : Ethernet) (p : Packet) → ArePartsOf frame e → packet_of e.rest ≡ Ok p → length (answer e p local) < 2 ^ 32
@@ -242,8 +242,8 @@ accepted-append (c ∷ cs) ds = ap (λ ts. frames_of c ++ ts) (accepted-append c
 
 one-short : (core : CoreId) (g : Given) → All IsTaken (accepted (cycle_by core g))
 one-short core (Time w t) = All-nil IsTaken
-one-short core (Frame taken) = step (nat_lt MAX_FRAME (length taken.frame)) refl where
-  step : (b : Bool) → nat_lt MAX_FRAME (length taken.frame) ≡ b → All IsTaken (accepted (if b then [] else Frames core (taken ∷ []) ∷ []))
+one-short core (Frame taken) = step (nat_lt BUFFER_BYTES (length taken.frame)) refl where
+  step : (b : Bool) → nat_lt BUFFER_BYTES (length taken.frame) ≡ b → All IsTaken (accepted (if b then [] else Frames core (taken ∷ []) ∷ []))
   step true is = All-nil IsTaken
   step false is = All-cons IsTaken taken [] (let le : length taken.frame ≤ 2048 = grind (arith, nat_tests, is) in le) (All-nil IsTaken)
 

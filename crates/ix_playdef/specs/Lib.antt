@@ -7,3 +7,4 @@ pub mod Connects
 pub mod Groups
 pub mod Placed
 pub mod Replies
+pub mod Sound

@@ -2,20 +2,15 @@
 use Rattle.std.specs.Prelude.{◌≡◌, ℕ, ◌+◌, ◌<◌, List, [], ◌∷◌, ◌++◌, length, slice_get, slice_index_or, Bool, not, ◌&&◌, ◌==◌, nat_lt, if◌then◌else◌, Option, Some, None}
 use Rattle.ix_base.specs.declared.id.CoreId.{CoreId}
 use Rattle.ix_groupdef.specs.Group.{Cycle, Frames, Time as TimeCycle}
-use Rattle.ix_hash.specs.Group.{group_of_named}
-use Rattle.ix_seg.specs.Frame.{flow_of_frame}
+use Rattle.ix_steer.specs.Steering.{group_of_frame}
 use Rattle.ix_wire.specs.declared.entry.Entry.{Entry}
 use Rattle.ix_wire.specs.declared.entry.Entry.TheVariants as entries
 use Rattle.ix_playdef.specs.declared.wire.Given.{Given}
 use Rattle.ix_playdef.specs.declared.wire.Given.TheVariants.{Frame, Time}
-use Rattle.ix_playdef.specs.declared.wire.TheConstants.{MAX_FRAME}
-
--- the group of the flow that a frame names, and group 0 where it names none
-abbrev pub group_of_frame : List ℕ → ℕ
-group_of_frame frame = group_of_named (flow_of_frame frame)
+use Rattle.ix_base.specs.declared.id.TheConstants.{BUFFER_BYTES}
 
 abbrev pub is_taken : ℕ → List ℕ → Bool
-is_taken group frame = not (nat_lt MAX_FRAME (length frame)) && (group_of_frame frame == group)
+is_taken group frame = not (nat_lt BUFFER_BYTES (length frame)) && (group_of_frame frame == group)
 
 -- of the frame of a record, under its wire number
 abbrev pub given_frame : ℕ → ℕ → Option (List ℕ) → List Given
@@ -41,7 +36,7 @@ group_entries frames group entries = given_from frames group 0 entries
 -- ## Cycles
 -- Each makes one cycle of its group on this core; a frame that is too long makes none.
 abbrev pub cycle_by : CoreId → Given → List Cycle
-cycle_by core (Frame taken) = if nat_lt MAX_FRAME (length taken.frame) then [] else Frames core (taken ∷ []) ∷ []
+cycle_by core (Frame taken) = if nat_lt BUFFER_BYTES (length taken.frame) then [] else Frames core (taken ∷ []) ∷ []
 cycle_by core (Time w t) = TimeCycle core w t ∷ []
 
 abbrev pub cycles_of : CoreId → List Given → List Cycle

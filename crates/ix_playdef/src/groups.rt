@@ -11,9 +11,9 @@ ghost use Rattle.ix_playdef.specs.Groups.{record_given, AreRecordsGiven, AreReco
 use crate::connects::{PushConnect, connect_in, connects_of};
 use crate::run::run_given;
 use crate::setting::env_of;
-use crate::wire::{GROUPS, Given, entries_by_group};
+use crate::wire::{Given, entries_by_group};
 use ix_appdef::Application;
-use ix_base::{CoreId, GroupId, List, NoMemory};
+use ix_base::{CoreId, FLOW_GROUPS, GroupId, List, NoMemory};
 use ix_conf::Conf;
 use ix_groupdef::{Env, GroupRecord, PlainGroup, groups_are_sound};
 use ix_ip::payloads_lie_within;
@@ -52,7 +52,7 @@ fn records_given(
     requires groups { length lists.items ≡ 512 }
     ensures { IfOk result (λ records. AreRecordsGiven (setting_of env.now) connects.now lists.items records.items) }
 {
-    let mut records = Vec::with_capacity(alloc, GROUPS)?;
+    let mut records = Vec::with_capacity(alloc, FLOW_GROUPS)?;
     for given in lists {
         let group = GroupId(records.len() as u16);
         let left = record_given(alloc, env, connects, group, given)?;

@@ -169,7 +169,7 @@ pub fn initial_numbers(
             pairs.push(pair)?;
         }
     }
-    Ok(Isns::new(pairs))
+    Isns::indexed(alloc, pairs)
 }
 
 #[cfg(test)]

@@ -2,6 +2,7 @@
 ghost use Rattle.std.specs.Prelude.{◌≡◌, ◌≤◌, ◌<◌, ◌^◌, ◌++◌, All, IfOk, OnOk, length};
 ghost use Rattle.std.specs.List.{IsDistinct, range_with_len};
 ghost use Rattle.std.specs.List.Sorted.{IsPermutation, IsSortedByKey};
+ghost use Rattle.ix_groupdef.specs.Journal.{seen_entry, seen_input};
 ghost use Rattle.ix_groupdef.specs.Sent.{CanBeWritten};
 ghost use Rattle.ix_playdef.specs.Order.{is_before, key_cmp, key_of, number_of, numbers_among, same_key};
 ghost use Rattle.ix_playdef.specs.Placed.{placed};
@@ -10,7 +11,7 @@ ghost use Rattle.ix_seg.specs.Written.{frame_bytes};
 
 use crate::order::{Phase, Reply, ReplyKey, in_order};
 use ix_base::{Bytes, GroupId, Local, NoMemory, Seg, WireNo};
-use ix_groupdef::{ConnEnd, GroupRecord, JournalEntry, Stray};
+use ix_groupdef::{ConnEnd, EntryView, GroupRecord, InputView, Stray};
 use ix_seg::write_frame;
 use ix_tcpdef::{Input, Output};
 use std::alloc::Global;
@@ -18,23 +19,29 @@ use std::alloc::Global;
 /// The longest frame that is sent, in bytes: its headers, the option of a SYN, and a body of 1,460 bytes.
 const LONGEST: usize = 1518;
 
-fn phase_of(input: &Input) -> Phase
-    ensures { result ≡ phase_of input.now }
+fn phase_of(input: InputView<'_>) -> Phase
+    ensures { result ≡ phase_of (seen_input input.entry) }
 {
     match input {
-        Input::Segment { .. } => Phase::Taken,
-        Input::Timer => Phase::Timer,
-        Input::Call(_) => Phase::Connect,
-        Input::Flush => Phase::Flush,
+        InputView::Sendv(_) => Phase::Connect,
+        InputView::Other(other) => match other {
+            Input::Segment { .. } => Phase::Taken,
+            Input::Timer => Phase::Timer,
+            Input::Call(_) => Phase::Connect,
+            Input::Flush => Phase::Flush,
+        },
     }
 }
 
-fn entry_of(input: &Input, end: Option<WireNo>) -> Option<WireNo>
-    ensures { result ≡ entry_of input.now end }
+fn entry_of(input: InputView<'_>, end: Option<WireNo>) -> Option<WireNo>
+    ensures { result ≡ entry_of (seen_input input.entry) end }
 {
     match input {
-        Input::Segment { w, .. } => Some(*w),
-        _ => end,
+        InputView::Sendv(_) => end,
+        InputView::Other(other) => match other {
+            Input::Segment { w, .. } => Some(*w),
+            _ => end,
+        },
     }
 }
 
@@ -54,11 +61,11 @@ pub fn key_at(
     group: GroupId,
     opening: usize,
     at: usize,
-    input: &Input,
+    input: InputView<'_>,
     end: Option<WireNo>,
     output: usize,
 ) -> ReplyKey
-    ensures { result ≡ key_at group.0 opening at input.now end output }
+    ensures { result ≡ key_at group.0 opening at (seen_input input.entry) end output }
 {
     ReplyKey {
         entry: entry_of(input, end),
@@ -130,17 +137,17 @@ fn push_input(
     place: ConnPlace,
     ends: &[Option<WireNo>],
     at: usize,
-    entry: &JournalEntry,
+    view: &EntryView<'_>,
     replies: &mut Vec<Reply>,
 ) -> Result<(), NoMemory>
-    requires { All CanBeWritten entry.now.outputs }
-    ensures replies { OnOk result (replies.new.items ≡ replies.old.items ++ input_replies local.now place.group.0 place.opening ends.now at entry.now) }
+    requires { All CanBeWritten view.now.outputs.now }
+    ensures replies { OnOk result (replies.new.items ≡ replies.old.items ++ input_replies local.now place.group.0 place.opening ends.now at (seen_entry view.now)) }
     ensures short { All IsShort replies.old.items → OnOk result (All IsShort replies.new.items) }
 {
     let end = end_at(ends, at);
-    let outputs = entry.outputs.as_slice();
+    let outputs = view.outputs.as_slice();
     for i in 0..outputs.len() {
-        let key = key_at(place.group, place.opening, at, &entry.input, end, i);
+        let key = key_at(place.group, place.opening, at, view.input, end, i);
         push_output(alloc, local, key, &outputs[i], replies)?;
     }
     Ok(())
@@ -159,10 +166,11 @@ fn push_conn(
     ensures replies { OnOk result (replies.new.items ≡ replies.old.items ++ conn_replies local.now place.group.0 place.opening conn.now) }
     ensures short { All IsShort replies.old.items → OnOk result (All IsShort replies.new.items) }
 {
-    let journal = conn.journal.as_slice();
+    let journal = &conn.journal;
     let ends = conn.ends.as_slice();
     for i in 0..journal.len() {
-        push_input(alloc, local, place, ends, i, &journal[i], replies)?;
+        let view = journal.entry(i);
+        push_input(alloc, local, place, ends, i, &view, replies)?;
     }
     Ok(())
 }

@@ -5,9 +5,9 @@ ghost use Rattle.ix_groupdef.specs.Env.{setting_of};
 ghost use Rattle.ix_groupdef.specs.Group.{Cycle, Connect, run};
 ghost use Rattle.ix_playdef.specs.Wire.{cycle_by, cycles_of};
 
-use crate::wire::{Given, MAX_FRAME};
+use crate::wire::Given;
 use ix_appdef::Application;
-use ix_base::{CoreId, List, NoMemory};
+use ix_base::{BUFFER_BYTES, CoreId, List, NoMemory};
 use ix_groupdef::{Env, PlainGroup};
 use std::alloc::Global;
 
@@ -26,7 +26,7 @@ fn run_one(
 {
     match given {
         Given::Frame(taken) => {
-            if taken.frame.len() > MAX_FRAME {
+            if taken.frame.len() > BUFFER_BYTES {
                 return Ok(());
             }
             let mut frames = List::new(alloc);

@@ -1,26 +1,14 @@
 // What each flow group is given of a wire list.
 ghost use Rattle.std.specs.Prelude.{◌≡◌, ◌<◌, ◌^◌, All, IfOk, OnOk, length};
 ghost use Rattle.ix_pcap.specs.Capture.{IsSpanOf, frames_of};
-ghost use Rattle.ix_seg.specs.Frame.{flow_of_frame};
-ghost use Rattle.ix_ip.specs.Packet.{flow_of_packet};
-ghost use Rattle.ix_playdef.specs.Wire.{group_of_frame, AreEmpty, GetFrame, GetTime, GetEntry, AreGiven};
+ghost use Rattle.ix_playdef.specs.Wire.{AreEmpty, GetFrame, GetTime, GetEntry, AreGiven};
 
-use byteorder::{BigEndian, ByteOrder};
-use ix_base::{Bytes, Flow, GroupId, List, NoMemory, WireNo};
-use ix_eth::{EthView, IPV4};
+use ix_base::{BUFFER_BYTES, Bytes, FLOW_GROUPS, List, NoMemory, WireNo};
 use ix_groupdef::Taken;
-use ix_hash::group_of;
-use ix_ip::IpView;
 use ix_pcap::{Capture, Span};
-use ix_seg::TCP;
+use ix_steer::frame_group;
 use ix_wire::Entry;
 use std::alloc::Global;
-
-/// The number of flow groups.
-pub const GROUPS: usize = 512;
-
-/// The length in bytes of the longest frame that is accepted.
-pub const MAX_FRAME: usize = 2048;
 
 /// What a flow group is given of a wire list.
 #[derive(Debug, Drop)]
@@ -29,47 +17,6 @@ pub enum Given {
     Frame(Taken),
     /// An entry that sets the clock, in ticks; it is of every group.
     Time { w: WireNo, t: u32 },
-}
-
-// The flow that a packet names: that of a TCP packet with two ports.
-fn flow_of_packet(ip: &IpView<'_>) -> Option<Flow>
-    ensures { result ≡ flow_of_packet ip.now }
-{
-    let payload = ip.payload();
-    if ip.protocol() != TCP || payload.len() < 4 {
-        return None;
-    }
-    Some(Flow {
-        remote: ip.src(),
-        local: ip.dst(),
-        remote_port: BigEndian::read_u16(&payload[0..2]),
-        local_port: BigEndian::read_u16(&payload[2..4]),
-    })
-}
-
-// The flow that a frame names, whether it is a segment or not.
-#[tactic(auto, unfolding(ix_seg::specs::Frame::flow_of_frame))]
-fn flow_of_frame(frame: &[u8]) -> Option<Flow>
-    ensures { result ≡ flow_of_frame frame.now }
-{
-    match EthView::of(frame) {
-        Some(ethernet) if ethernet.kind() == IPV4 => match IpView::of(ethernet.rest()) {
-            Ok(ip) => flow_of_packet(&ip),
-            Err(_) => None,
-        },
-        _ => None,
-    }
-}
-
-/// The flow group of a frame: that of the flow that it names, and group 0 where it names none.
-pub fn group_of_frame(frame: &[u8]) -> GroupId
-    ensures group { result.0 ≡ group_of_frame frame.now }
-    ensures below { result.0 < 512 }
-{
-    match flow_of_frame(frame) {
-        Some(flow) => group_of(&flow),
-        None => GroupId(0),
-    }
 }
 
 // Gives a frame to its group.
@@ -82,15 +29,15 @@ fn give_frame(
     requires { length lists.old ≡ 512 }
     ensures { OnOk result (GetFrame w.0 frame.now lists.old lists.new) }
 {
-    if frame.len() > MAX_FRAME {
+    if frame.len() > BUFFER_BYTES {
         return Ok(());
     }
-    let frame_group = group_of_frame(frame).0 as usize;
+    let group = frame_group(frame).0 as usize;
     let taken = Taken {
         w,
         frame: Bytes::from_slice(alloc, frame)?,
     };
-    let list = &mut lists[frame_group];
+    let list = &mut lists[group];
     list.push(Given::Frame(taken))?;
     Ok(())
 }
@@ -136,8 +83,8 @@ fn empty_lists(alloc: Global) -> Result<Vec<List<Given>>, NoMemory>
     ensures count { IfOk result (λ lists. length lists.items ≡ 512) }
     ensures empty { IfOk result (λ lists. AreEmpty lists.items) }
 {
-    let mut lists = Vec::with_capacity(alloc, GROUPS)?;
-    for i in 0..GROUPS {
+    let mut lists = Vec::with_capacity(alloc, FLOW_GROUPS)?;
+    for i in 0..FLOW_GROUPS {
         lists.push(List::new(alloc))?;
     }
     Ok(lists)

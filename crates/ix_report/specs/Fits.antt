@@ -11,14 +11,14 @@ use Rattle.ix_playdef.specs.Groups.{AreRecords}
 use Rattle.ix_playdef.specs.Order.{key_cmp, key_of, numbers_among}
 use Rattle.ix_playdef.specs.Own.{local_of}
 use Rattle.ix_playdef.specs.Replies.{all_replies}
-use Rattle.ix_playdef.specs.declared.wire.TheConstants.{MAX_FRAME}
+use Rattle.ix_base.specs.declared.id.TheConstants.{BUFFER_BYTES}
 use Rattle.ix_report.specs.Lines.{all_strays, wire_of}
 use Rattle.ix_report.specs.Named.{NamesEachOnce}
 use Rattle.ix_report.specs.declared.report.Report.{Report}
 
 -- a frame is dropped exactly where it is too long
 abbrev pub is_too_long : Option (List ℕ) → Bool
-is_too_long (Some frame) = nat_lt MAX_FRAME (length frame)
+is_too_long (Some frame) = nat_lt BUFFER_BYTES (length frame)
 is_too_long None = false
 
 abbrev pub is_dropped : List (List ℕ) → Entry → Bool

@@ -1,6 +1,7 @@
 // The lines of a report's short text.
 ghost use Rattle.std.specs.Prelude.{◌≡◌, ◌≤◌, ◌<◌, ◌^◌, ◌++◌, [], ◌∷◌, OnOk, IfOk, length, map};
 ghost use Rattle.std.specs.List.Sorted.{IsSortedByKey};
+ghost use Rattle.ix_groupdef.specs.Journal.{seen_entry, seen_input};
 ghost use Rattle.ix_lines.specs.declared.line.Line.TheVariants as kinds;
 ghost use Rattle.ix_playdef.specs.Order.{key_cmp, key_of, number_of};
 ghost use Rattle.ix_playdef.specs.Placed.{placed};
@@ -8,7 +9,7 @@ ghost use Rattle.ix_report.specs.Lines.{call_kind, conn_lines, group_lines, inpu
 
 use crate::report::Report;
 use ix_base::{BufId, CoreId, GroupId, NoMemory, Ret, WireNo};
-use ix_groupdef::{ConnEnd, GroupRecord, JournalEntry};
+use ix_groupdef::{ConnEnd, EntryView, GroupRecord, InputView, Journal};
 use ix_lines::{InputKind, Line, Opening, OutputLine, RetLine, StrayLine};
 use ix_playdef::{Reply, ReplyKey, end_at, key_at, number_of};
 use ix_tcpdef::{Ask, Input, Output, Told};
@@ -75,18 +76,23 @@ fn call_kind(ask: &Ask) -> InputKind
     }
 }
 
-fn input_kind(entry: &JournalEntry, end: Option<WireNo>) -> InputKind
-    ensures { result ≡ input_kind entry.now.input entry.now.clock entry.now.core end }
+fn input_kind(view: &EntryView<'_>, end: Option<WireNo>) -> InputKind
+    ensures { result ≡ input_kind (seen_input view.now.input) view.now.clock view.now.core end }
 {
-    match &entry.input {
-        Input::Segment { w, .. } => InputKind::Seg {
-            w: *w,
-            core: entry.core.unwrap_or(CoreId(0)),
+    match view.input {
+        InputView::Sendv(bytes) => InputKind::Sendv {
+            n: bytes.len() as u64,
         },
-        Input::Timer => InputKind::Timer { t: entry.clock },
-        Input::Call(ask) => call_kind(ask),
-        Input::Flush => InputKind::Flush {
-            w: end.unwrap_or(WireNo(0)),
+        InputView::Other(input) => match input {
+            Input::Segment { w, .. } => InputKind::Seg {
+                w: *w,
+                core: view.core.unwrap_or(CoreId(0)),
+            },
+            Input::Timer => InputKind::Timer { t: view.clock },
+            Input::Call(ask) => call_kind(ask),
+            Input::Flush => InputKind::Flush {
+                w: end.unwrap_or(WireNo(0)),
+            },
         },
     }
 }
@@ -114,18 +120,18 @@ fn push_input(
     opening: usize,
     ends: &[Option<WireNo>],
     at: usize,
-    entry: &JournalEntry,
+    view: &EntryView<'_>,
     lines: &mut Vec<Line>,
 ) -> Result<(), NoMemory>
     requires order { IsSortedByKey key_of key_cmp replies.now }
     requires few { length replies.now < 2 ^ 32 }
-    ensures { OnOk result (lines.new.items ≡ lines.old.items ++ input_lines replies.now group.0 opening ends.now at entry.now) }
+    ensures { OnOk result (lines.new.items ≡ lines.old.items ++ input_lines replies.now group.0 opening ends.now at (seen_entry view.now)) }
 {
     let end = end_at(ends, at);
-    lines.push(Line::Input(input_kind(entry, end)))?;
-    let outputs = entry.outputs.as_slice();
+    lines.push(Line::Input(input_kind(view, end)))?;
+    let outputs = view.outputs.as_slice();
     for i in 0..outputs.len() {
-        let key = key_at(group, opening, at, &entry.input, end, i);
+        let key = key_at(group, opening, at, view.input, end, i);
         push_output(replies, &key, &outputs[i], lines)?;
     }
     Ok(())
@@ -138,7 +144,7 @@ fn push_journal(
     group: GroupId,
     opening: usize,
     ends: &[Option<WireNo>],
-    journal: &[JournalEntry],
+    journal: &Journal,
     lines: &mut Vec<Line>,
 ) -> Result<(), NoMemory>
     requires order { IsSortedByKey key_of key_cmp replies.now }
@@ -146,7 +152,8 @@ fn push_journal(
     ensures { OnOk result (lines.new.items ≡ lines.old.items ++ placed (input_lines replies.now group.0 opening ends.now) 0 journal.now) }
 {
     for i in 0..journal.len() {
-        push_input(replies, group, opening, ends, i, &journal[i], lines)?;
+        let view = journal.entry(i);
+        push_input(replies, group, opening, ends, i, &view, lines)?;
     }
     Ok(())
 }
@@ -181,14 +188,7 @@ fn push_conn(
         opening: opening_of(group, conn),
     })?;
     let ends = conn.ends.as_slice();
-    push_journal(
-        replies,
-        group,
-        order + 1,
-        ends,
-        conn.journal.as_slice(),
-        lines,
-    )?;
+    push_journal(replies, group, order + 1, ends, &conn.journal, lines)?;
     lines.push(Line::Left(conn.left))?;
     lines.push(Line::Answer {
         wrote: conn.wrote,

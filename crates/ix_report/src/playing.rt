@@ -7,10 +7,10 @@ ghost use Rattle.ix_report.specs.Fits.{Fits, is_dropped};
 
 use crate::report::Report;
 use crate::strays::strays_of;
-use ix_base::{List, NoMemory};
+use ix_base::{BUFFER_BYTES, List, NoMemory};
 use ix_conf::Conf;
 use ix_pcap::{Capture, Span};
-use ix_playdef::{MAX_FRAME, connect_answers, group_records, local_of, replies_of};
+use ix_playdef::{connect_answers, group_records, local_of, replies_of};
 use ix_wire::Entry;
 use std::alloc::Global;
 
@@ -24,7 +24,7 @@ fn is_dropped(bytes: &[u8], spans: &[Span], entry: Entry) -> bool
 {
     match entry {
         Entry::Frame { rec } => match spans.get(rec as usize) {
-            Some(span) => bytes[span.from..span.to].len() > MAX_FRAME,
+            Some(span) => bytes[span.from..span.to].len() > BUFFER_BYTES,
             None => false,
         },
         _ => false,

@@ -12,9 +12,9 @@ use Rattle.ix_tcpdef.specs.Frames.{ack_frame, reset_frame}
 use Rattle.ix_tcpdef.specs.Arrival.{Goes, Stops, ◌>>=◌}
 use Rattle.ix_tcpdef.specs.Acknowledgement.{is_duplicate, duplicated, advanced, is_newer, unpersisted, windowed, established, establishing, too_far, acked, told_sent, fin_acked_in, fin_acked, synchronized, acknowledgement}
 use Rattle.ix_tcpdef.specs.Needs.{carries}
-use Rattle.ix_tcpdef.specs.Sound.{IsKept, bit}
-use Rattle.ix_tcpdef.proofs.NumberLemmas.{advance_most, finds_position}
-use Rattle.ix_tcpdef.proofs.KeptAck.{is_checked}
+use Rattle.ix_tcpdef.specs.Sound.{IsKept, bit, HasOpened}
+use Rattle.ix_tcpin.proofs.PositionLemmas.{advance_most, finds_position}
+use Rattle.ix_tcpdef.specs.Delivered.{expects}
 use Rattle.ix_tcpdef.specs.declared.types.Cfg.{Cfg}
 use Rattle.ix_tcpdef.specs.declared.types.State.{State}
 use Rattle.ix_tcpdef.specs.declared.types.State.TheVariants as st
@@ -25,7 +25,7 @@ use Rattle.ix_tcpdef.specs.declared.types.Output.TheVariants as outputs
 use Rattle.ix_tcpdef.specs.declared.types.Tcb.{Tcb}
 use Rattle.ix_tcpdef.specs.declared.types.Told.{Told}
 use Rattle.ix_tcpdef.specs.declared.types.Told.TheVariants as told
-use Rattle.ix_tcpdef.specs.Stands.{tcb_of, HasOpened}
+use Rattle.ix_tcpdef.specs.Stands.{tcb_of}
 use Rattle.ix_tcpin.specs.Heads.{ack_head, reset_head}
 use Rattle.ix_tcpin.specs.Work as at_work
 use Rattle.ix_tcpin.specs.Work.{Work, work, Course, Onward, Done, along, work_of, replies, announces, ends}
@@ -204,7 +204,7 @@ leads-synchronized cfg h now w n seg j es a even f least fits = by_test (is_past
         leads-stays cfg now w n seg _ _ stays (flies-sent m (on j c) (flies-acked cfg h now j.connection f p))
 
 -- ## By the state
-leads-acknowledgement_in : (s : State) (cfg : Cfg) (h : SegHead) (now : ℕ) (w : Connection) (n : WireNo) (seg : Seg) (j : Job) (es : List Told) → j.connection.state ≡ s → is_checked s ≡ true → Agrees w j es → acked_data j.connection ≡ acked_data w → IsKept cfg j.connection → HasOpened j.connection → h.ack < 2 ^ 32 → Leads (Stays w) (Says w n seg) (if is_syn_received s then establishing_part h (at w j es) else synchronized_part cfg h now (at w j es)) (if is_syn_received s then establishing h j else synchronized cfg h now j)
+leads-acknowledgement_in : (s : State) (cfg : Cfg) (h : SegHead) (now : ℕ) (w : Connection) (n : WireNo) (seg : Seg) (j : Job) (es : List Told) → j.connection.state ≡ s → expects s ≡ true → Agrees w j es → acked_data j.connection ≡ acked_data w → IsKept cfg j.connection → HasOpened j.connection → h.ack < 2 ^ 32 → Leads (Stays w) (Says w n seg) (if is_syn_received s then establishing_part h (at w j es) else synchronized_part cfg h now (at w j es)) (if is_syn_received s then establishing h j else synchronized cfg h now j)
 leads-acknowledgement_in st.Listen cfg h now w n seg j es is checked a even k opened fits = cc
 leads-acknowledgement_in st.SynSent cfg h now w n seg j es is checked a even k opened fits = cc
 leads-acknowledgement_in st.Closed cfg h now w n seg j es is checked a even k opened fits = cc
@@ -214,7 +214,7 @@ leads-acknowledgement_in st.SynReceived cfg h now w n seg j es is checked a even
 leads-acknowledgement_in _ cfg h now w n seg j es is checked a even k opened fits =
     leads-synchronized cfg h now w n seg j es a even (flying cfg j.connection k) (k.sound.sender.stream (ap carries is)) fits
 
-pub leads-acknowledgement : (cfg : Cfg) (h : SegHead) (now : ℕ) (w : Connection) (n : WireNo) (seg : Seg) (j : Job) (es : List Told) → is_checked j.connection.state ≡ true → Agrees w j es → acked_data j.connection ≡ acked_data w → IsKept cfg j.connection → HasOpened j.connection → h.ack < 2 ^ 32 → Leads (Stays w) (Says w n seg) (acknowledgement_part cfg h now (at w j es)) (acknowledgement cfg h now j)
+pub leads-acknowledgement : (cfg : Cfg) (h : SegHead) (now : ℕ) (w : Connection) (n : WireNo) (seg : Seg) (j : Job) (es : List Told) → expects j.connection.state ≡ true → Agrees w j es → acked_data j.connection ≡ acked_data w → IsKept cfg j.connection → HasOpened j.connection → h.ack < 2 ^ 32 → Leads (Stays w) (Says w n seg) (acknowledgement_part cfg h now (at w j es)) (acknowledgement cfg h now j)
 unfolding acknowledgement_part acknowledgement
 leads-acknowledgement cfg h now w n seg j es checked a even k opened fits =
     leads-acknowledgement_in j.connection.state cfg h now w n seg j es refl checked a even k opened fits

@@ -19,7 +19,7 @@ use Rattle.ix_tcpdef.specs.declared.types.Output.TheVariants as outputs
 use Rattle.ix_tcpdef.specs.declared.types.Piece.{Piece}
 use Rattle.ix_tcpdef.specs.declared.types.Told.TheVariants as told
 use Rattle.ix_tcpdef.specs.Stands.{tcb_of, head_of}
-use Rattle.ix_tcpdef.proofs.NumberLemmas.{counts_ahead, tests_past, goes_on}
+use Rattle.ix_tcpin.proofs.PositionLemmas.{counts_ahead, tests_past, goes_on}
 use Rattle.ix_tcpin.specs.declared.verdict.HeldUse.{HeldUse}
 use Rattle.ix_tcpin.specs.declared.verdict.HeldUse.TheVariants as uses
 use Rattle.ix_tcpin.specs.Work.{keep}

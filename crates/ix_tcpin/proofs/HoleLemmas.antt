@@ -16,7 +16,7 @@ use Rattle.ix_tcpdef.specs.declared.types.HeldHead.{HeldHead}
 use Rattle.ix_tcpdef.specs.declared.types.HeldSegment.{HeldSegment}
 use Rattle.ix_tcpdef.specs.declared.types.Octets.{Octets}
 use Rattle.ix_tcpdef.specs.Stands.{head_of}
-use Rattle.ix_tcpdef.proofs.NumberLemmas.{counts_ahead, goes_on}
+use Rattle.ix_tcpin.proofs.PositionLemmas.{counts_ahead, goes_on}
 use Rattle.ix_tcpin.specs.declared.text.Octets.{Octets as Places}
 use Rattle.ix_tcpin.specs.Text.{octets_in, is_beside, place_among, head_held}
 
@@ -102,7 +102,7 @@ beside-all irs rcv low top p o (s ∷ ss) at len above far rising ends =
 insert_next : (m : HeldHead) (ms : List HeldHead) (k : ℕ) (x : HeldHead) → insert (m ∷ ms) (1 + k) x ≡ m ∷ insert ms k x
 insert_next m ms k x = let e : 1 + k ≡ suc k = omega arith in rw e refl
 
-place_test : (irs rcv past at : ℕ) → rcv ≤ at → at < rcv + 2 ^ 32 → nat_lt past (ahead (number irs rcv) (number irs at)) ≡ nat_lt (rcv + past) at
+pub place_test : (irs rcv past at : ℕ) → rcv ≤ at → at < rcv + 2 ^ 32 → nat_lt past (ahead (number irs rcv) (number irs at)) ≡ nat_lt (rcv + past) at
 place_test irs rcv past at low far =
     ap (nat_lt past) (counts_ahead irs rcv at low far)
     ∙ elim (cases_Bool (nat_lt past (at - rcv))) [ inl yes_lt ↦ grind (arith, common_steps, yes_lt) | inr no_lt ↦ grind (arith, common_steps, no_lt) ]

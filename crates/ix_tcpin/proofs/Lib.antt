@@ -11,3 +11,5 @@ pub mod ArrivalLemmas
 pub mod RangeLemmas
 pub mod TakeLemmas
 pub mod QueueLemmas
+pub mod PositionLemmas
+pub mod HoldLemmas

@@ -8,7 +8,7 @@ use Rattle.ix_base.specs.Sequence.{number, ahead, is_past, is_at_or_past}
 use Rattle.ix_tcpdef.specs.Ticks.{later}
 use Rattle.ix_tcpdef.specs.Connection.{snd_una, snd_nxt, acked_data, queued, grown, loss_threshold}
 use Rattle.ix_tcpdef.specs.Acknowledgement.{is_duplicate, duplicated, opened_window, advanced, is_newer, unpersisted, windowed, acked}
-use Rattle.ix_tcpdef.proofs.NumberLemmas.{advance_most, counts_ahead, tells_apart, finds_position}
+use Rattle.ix_tcpin.proofs.PositionLemmas.{advance_most, counts_ahead, tells_apart, finds_position}
 use Rattle.ix_tcpdef.specs.declared.types.Cfg.{Cfg}
 use Rattle.ix_tcpdef.specs.declared.types.Connection.{Connection}
 use Rattle.ix_tcpdef.specs.declared.types.Tcb.{Tcb}

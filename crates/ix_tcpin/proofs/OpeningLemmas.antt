@@ -9,7 +9,7 @@ use Rattle.ix_base.specs.Flags.{has_flag}
 use Rattle.ix_tcpdef.specs.Connection.{acked_data, is_closed, is_listen, is_syn_sent, on, gives, ended}
 use Rattle.ix_tcpdef.specs.Frames.{reset_frame, syn_ack_frame}
 use Rattle.ix_tcpdef.specs.Opening.{opens, passive, opening, connected, syn_sent}
-use Rattle.ix_tcpdef.specs.Sound.{IsKept, is_unknown}
+use Rattle.ix_tcpdef.specs.Sound.{IsKept, is_unknown, HasOpened}
 use Rattle.ix_tcpdef.specs.declared.types.Cfg.{Cfg}
 use Rattle.ix_tcpdef.specs.declared.types.State.TheVariants as st
 use Rattle.ix_tcpdef.specs.declared.types.Connection.{Connection}
@@ -18,7 +18,7 @@ use Rattle.ix_tcpdef.specs.declared.types.Job.{Job}
 use Rattle.ix_tcpdef.specs.declared.types.Output.TheVariants as outputs
 use Rattle.ix_tcpdef.specs.declared.types.Told.TheVariants as told
 use Rattle.ix_base.specs.declared.segment.TheConstants.{ACK, RST, SYN}
-use Rattle.ix_tcpdef.specs.Stands.{tcb_of, head_of, HasOpened}
+use Rattle.ix_tcpdef.specs.Stands.{tcb_of, head_of}
 use Rattle.ix_tcpin.specs.declared.verdict.Verdict.{Verdict}
 use Rattle.ix_tcpin.specs.Heads.{reset_head, syn_ack_head}
 use Rattle.ix_tcpin.specs.Work as at_work

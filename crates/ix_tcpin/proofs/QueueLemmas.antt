@@ -14,7 +14,7 @@ use Rattle.ix_tcpdef.specs.Arrival.{Next, Goes, Stops, ◌>>=◌, job_of, span, 
 use Rattle.ix_tcpdef.specs.Acknowledgement.{establishing, too_far, is_duplicate, duplicated, advanced, is_newer, windowed, acked, told_sent, fin_acked_in, fin_acked, synchronized, acknowledgement}
 use Rattle.ix_tcpdef.specs.Body.{octets, delivered, rest_of, holding, filled, is_apart, waiting, received, takes_body, body, past_fin, fin_taken_in, fin_taken, finished, text_and_fin}
 use Rattle.ix_tcpdef.specs.Opening.{opens, opening, syn_sent}
-use Rattle.ix_tcpdef.specs.Sound.{IsKept}
+use Rattle.ix_tcpdef.specs.Sound.{IsKept, HasOpened}
 use Rattle.ix_tcpdef.specs.Step.{checked, arrived_in, arrived, stepped, step}
 use Rattle.ix_tcpdef.specs.declared.types.Cfg.{Cfg}
 use Rattle.ix_tcpdef.specs.declared.types.State.{State}
@@ -27,7 +27,7 @@ use Rattle.ix_tcpdef.specs.declared.types.Octets.{Octets}
 use Rattle.ix_tcpdef.specs.declared.types.Told.{Told}
 use Rattle.ix_tcpdef.specs.declared.types.Told.TheVariants as told
 use Rattle.ix_base.specs.declared.segment.TheConstants.{ACK, FIN, RST, SYN}
-use Rattle.ix_tcpdef.specs.Stands.{send_queue, HasOpened}
+use Rattle.ix_tcpdef.specs.Stands.{send_queue}
 use Rattle.ix_tcpin.proofs.OpeningLemmas.{start}
 
 -- nothing more was given to be sent, and no less is acknowledged

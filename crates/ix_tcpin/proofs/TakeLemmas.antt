@@ -14,8 +14,9 @@ use Rattle.ix_tcpdef.specs.Acknowledgement.{acknowledgement}
 use Rattle.ix_tcpdef.specs.Body.{octets, takes_body}
 use Rattle.ix_tcpdef.specs.Needs.{IsFramed}
 use Rattle.ix_tcpdef.specs.Opening.{opens}
-use Rattle.ix_tcpdef.specs.Sound.{IsKept}
-use Rattle.ix_tcpdef.proofs.KeptAck.{is_checked, kept-acknowledgement}
+use Rattle.ix_tcpdef.specs.Sound.{IsKept, HasOpened}
+use Rattle.ix_tcpdef.specs.Arrivals.{AcknowledgementsKeep}
+use Rattle.ix_tcpdef.specs.Delivered.{expects}
 use Rattle.ix_tcpdef.specs.declared.types.Cfg.{Cfg}
 use Rattle.ix_tcpdef.specs.declared.types.State.{State}
 use Rattle.ix_tcpdef.specs.declared.types.State.TheVariants as st
@@ -27,7 +28,7 @@ use Rattle.ix_tcpdef.specs.declared.types.Tcb.{Tcb}
 use Rattle.ix_tcpdef.specs.declared.types.Told.{Told}
 use Rattle.ix_tcpdef.specs.declared.types.Told.TheVariants as told
 use Rattle.ix_base.specs.declared.segment.TheConstants.{ACK, FIN, RST, SYN}
-use Rattle.ix_tcpdef.specs.Stands.{tcb_of, head_of, HasOpened}
+use Rattle.ix_tcpdef.specs.Stands.{tcb_of, head_of}
 use Rattle.ix_tcpin.specs.declared.text.Octets.{Octets as Places}
 use Rattle.ix_tcpin.specs.declared.verdict.Take.{Take}
 use Rattle.ix_tcpin.specs.declared.verdict.Take.TheVariants as takes
@@ -50,8 +51,8 @@ use Rattle.ix_tcpin.proofs.ArrivalLemmas.{StaysKept, leads-kept, begin_as}
 
 -- ## Parts that take nothing
 -- a part leaves what is taken of the body as it was
-record LeavesTake (t : Take) (a : Course) : Type 0 where
-  take : (work_of a).verdict.take ≡ t
+pub record LeavesTake (t : Take) (a : Course) : Type 0 where
+  pub take : (work_of a).verdict.take ≡ t
 
 leaves-cond : (t : Take) (b : Bool) (x y : Course) → LeavesTake t x → LeavesTake t y → LeavesTake t (if b then x else y)
 leaves-cond t true x y l m = l
@@ -61,7 +62,7 @@ leaves-along : (t : Take) (a : Course) (f : Work → Course) → LeavesTake t a 
 leaves-along t (Onward k) f l more = more k l.take
 leaves-along t (Done k) f l more = record { take = l.take }
 
-leaves-acceptability : (cfg : Cfg) (h : SegHead) (now : ℕ) (k : Work) → LeavesTake k.verdict.take (acceptability_part cfg h now k)
+pub leaves-acceptability : (cfg : Cfg) (h : SegHead) (now : ℕ) (k : Work) → LeavesTake k.verdict.take (acceptability_part cfg h now k)
 unfolding acceptability_part
 leaves-acceptability cfg h now k =
     leaves-cond _ (is_acceptable (span h) (window cfg k.numbers) (distance k.numbers h)) _ _ (record { take = refl })
@@ -71,19 +72,19 @@ leaves-acceptability cfg h now k =
 take-tells : (k : Work) (t : Told) → (tells k t).verdict.take ≡ k.verdict.take
 take-tells k t = cond_both (k.numbers.accepted && not k.numbers.shut) _ _ (λ (x : Work). x.verdict.take ≡ k.verdict.take) (λ _. refl) (λ _. refl)
 
-leaves-reset : (cfg : Cfg) (h : SegHead) (k : Work) → LeavesTake k.verdict.take (reset_part cfg h k)
+pub leaves-reset : (cfg : Cfg) (h : SegHead) (k : Work) → LeavesTake k.verdict.take (reset_part cfg h k)
 unfolding reset_part
 leaves-reset cfg h k =
     leaves-cond _ (not (has_flag h.flags RST)) _ _ (record { take = refl })
     (leaves-cond _ (h.seq == k.numbers.rcv_nxt) _ _ (record { take = take-tells (ends k) told.DeadReset }) (record { take = refl }))
 
-leaves-synchronize : (cfg : Cfg) (h : SegHead) (k : Work) → LeavesTake k.verdict.take (synchronize_part cfg h k)
+pub leaves-synchronize : (cfg : Cfg) (h : SegHead) (k : Work) → LeavesTake k.verdict.take (synchronize_part cfg h k)
 unfolding synchronize_part
 leaves-synchronize cfg h k =
     leaves-cond _ (not (has_flag h.flags SYN)) _ _ (record { take = refl })
     (leaves-cond _ (is_syn_received k.numbers.state) _ _ (record { take = refl }) (record { take = refl }))
 
-leaves-unacknowledged : (h : SegHead) (k : Work) → LeavesTake k.verdict.take (unacknowledged_part h k)
+pub leaves-unacknowledged : (h : SegHead) (k : Work) → LeavesTake k.verdict.take (unacknowledged_part h k)
 unfolding unacknowledged_part
 leaves-unacknowledged h k = leaves-cond _ (has_flag h.flags ACK) _ _ (record { take = refl }) (record { take = refl })
 
@@ -111,7 +112,7 @@ leaves-synchronized cfg h now k =
     let i : Work = counts (acked_bytes h l.numbers) (on l (acked_numbers cfg h now l.numbers)) in
     record { take = (leaves-fin_acked cfg now (sent_part (acked_bytes h l.numbers) i)).take ∙ take-sent (acked_bytes h l.numbers) i ∙ same })
 
-leaves-acknowledgement : (cfg : Cfg) (h : SegHead) (now : ℕ) (k : Work) → LeavesTake k.verdict.take (acknowledgement_part cfg h now k)
+pub leaves-acknowledgement : (cfg : Cfg) (h : SegHead) (now : ℕ) (k : Work) → LeavesTake k.verdict.take (acknowledgement_part cfg h now k)
 unfolding acknowledgement_part establishing_part
 leaves-acknowledgement cfg h now k =
     leaves-cond _ (is_syn_received k.numbers.state) _ _
@@ -125,7 +126,7 @@ take-fin_in st.FinWait1 cfg now k = refl
 take-fin_in st.FinWait2 cfg now k = refl
 take-fin_in _ cfg now k = refl
 
-take-finished : (cfg : Cfg) (h : SegHead) (now : ℕ) (b : Texted) → (finished_part cfg h now b).verdict.take ≡ b.work.verdict.take
+pub take-finished : (cfg : Cfg) (h : SegHead) (now : ℕ) (b : Texted) → (finished_part cfg h now b).verdict.take ≡ b.work.verdict.take
 unfolding finished_part fin_part
 take-finished cfg h now b =
     let P : Work → Type 0 = λ x. x.verdict.take ≡ b.work.verdict.take in
@@ -205,9 +206,9 @@ taken-last cfg now w seg S (Onward k) (Stops j) window framed leads quiet = elim
 taken-last cfg now w seg S (Done k) (Goes j) window framed leads quiet = elim leads [ ]
 taken-last cfg now w seg S (Done k) (Stops j) window framed leads quiet = quiet.take
 
-taken-checked : (cfg : Cfg) (now : ℕ) (w : Connection) (n : WireNo) (seg : Seg) → cfg.window < 2 ^ 16 → seg.head.ack < 2 ^ 32 → seg.head.window < 2 ^ 16 → is_checked w.state ≡ true → is_closed w.state ≡ false → IsKept cfg w → HasOpened w → IsFramed seg → (work_of (checked_part cfg seg.head now (at w (start w) []))).verdict.take ≡ taken_after cfg seg (reached cfg seg.head now (start w))
+taken-checked : AcknowledgementsKeep → (cfg : Cfg) (now : ℕ) (w : Connection) (n : WireNo) (seg : Seg) → cfg.window < 2 ^ 16 → seg.head.ack < 2 ^ 32 → seg.head.window < 2 ^ 16 → expects w.state ≡ true → is_closed w.state ≡ false → IsKept cfg w → HasOpened w → IsFramed seg → (work_of (checked_part cfg seg.head now (at w (start w) []))).verdict.take ≡ taken_after cfg seg (reached cfg seg.head now (start w))
 unfolding checked_part
-taken-checked cfg now w n seg small ack window states alive k opened framed =
+taken-checked keeps cfg now w n seg small ack window states alive k opened framed =
     let a : Agrees w (start w) [] = begins w alive in
     let K : Work = at w (start w) [] in
     taken-same cfg seg (Says w n seg) K (start w) (acceptability_part cfg seg.head now K) (acceptability cfg seg.head now (start w)) _ _ (leads-acceptability cfg seg.head now w n seg (start w) [] a) (leaves-acceptability cfg seg.head now K)
@@ -215,14 +216,14 @@ taken-checked cfg now w n seg small ack window states alive k opened framed =
     (taken-same cfg seg (Says w n seg) K (start w) (synchronize_part cfg seg.head K) (synchronize cfg seg.head (start w)) _ _ (leads-synchronize cfg seg.head w n seg (start w) [] a) (leaves-synchronize cfg seg.head K)
     (taken-same cfg seg (Says w n seg) K (start w) (unacknowledged_part seg.head K) (unacknowledged seg.head (start w)) _ _ (leads-unacknowledged seg.head w n seg (start w) [] a) (leaves-unacknowledged seg.head K)
     (taken-last cfg now w seg (Says w n seg) (acknowledgement_part cfg seg.head now K) (acknowledgement cfg seg.head now (start w)) small framed
-    (leads-kept cfg w (Says w n seg) _ _ (leads-acknowledgement cfg seg.head now w n seg (start w) [] states a refl k opened ack) (kept-acknowledgement cfg seg.head now (start w) window states k))
+    (leads-kept cfg w (Says w n seg) _ _ (leads-acknowledgement cfg seg.head now w n seg (start w) [] states a refl k opened ack) (keeps cfg seg.head now (start w) window states k))
     (leaves-acknowledgement cfg seg.head now K)))))
 
-taken-opening : (cfg : Cfg) (h : SegHead) (now : ℕ) (k : Work) → (opening_part cfg h now k).verdict.take ≡ k.verdict.take
+pub taken-opening : (cfg : Cfg) (h : SegHead) (now : ℕ) (k : Work) → (opening_part cfg h now k).verdict.take ≡ k.verdict.take
 unfolding opening_part
 taken-opening cfg h now k = cond_both (opens h) _ _ (λ (x : Work). x.verdict.take ≡ k.verdict.take) (λ _. refl) (λ _. refl)
 
-taken-syn_sent : (cfg : Cfg) (h : SegHead) (k : Work) → (syn_sent_part cfg h k).verdict.take ≡ k.verdict.take
+pub taken-syn_sent : (cfg : Cfg) (h : SegHead) (k : Work) → (syn_sent_part cfg h k).verdict.take ≡ k.verdict.take
 unfolding syn_sent_part
 taken-syn_sent cfg h k =
     let P : Work → Type 0 = λ x. x.verdict.take ≡ k.verdict.take in
@@ -232,24 +233,24 @@ taken-syn_sent cfg h k =
     (λ _. cond_both (has_flag h.flags ACK) _ _ P (λ _. refl) (λ _. refl))
     (λ _. cond_both (has_flag h.flags SYN && has_flag h.flags ACK) _ _ P (λ _. refl) (λ _. refl)))
 
-taken-arrived_in : (s : State) (cfg : Cfg) (now : ℕ) (w : Connection) (n : WireNo) (seg : Seg) → w.state ≡ s → cfg.window < 2 ^ 16 → seg.head.ack < 2 ^ 32 → seg.head.window < 2 ^ 16 → IsKept cfg w → HasOpened w → IsFramed seg → (arrived_part_in s cfg seg.head now (at w (start w) [])).verdict.take ≡ taken_in s cfg seg now w
-taken-arrived_in st.Closed cfg now w n seg is small ack window k opened framed = refl
-taken-arrived_in st.Listen cfg now w n seg is small ack window k opened framed = taken-opening cfg seg.head now (at w (start w) [])
-taken-arrived_in st.SynSent cfg now w n seg is small ack window k opened framed = taken-syn_sent cfg seg.head (at w (start w) [])
-taken-arrived_in _ cfg now w n seg is small ack window k opened framed =
-    taken-checked cfg now w n seg small ack window (ap is_checked is) (ap is_closed is) k opened framed
+taken-arrived_in : (s : State) → AcknowledgementsKeep → (cfg : Cfg) (now : ℕ) (w : Connection) (n : WireNo) (seg : Seg) → w.state ≡ s → cfg.window < 2 ^ 16 → seg.head.ack < 2 ^ 32 → seg.head.window < 2 ^ 16 → IsKept cfg w → HasOpened w → IsFramed seg → (arrived_part_in s cfg seg.head now (at w (start w) [])).verdict.take ≡ taken_in s cfg seg now w
+taken-arrived_in st.Closed keeps cfg now w n seg is small ack window k opened framed = refl
+taken-arrived_in st.Listen keeps cfg now w n seg is small ack window k opened framed = taken-opening cfg seg.head now (at w (start w) [])
+taken-arrived_in st.SynSent keeps cfg now w n seg is small ack window k opened framed = taken-syn_sent cfg seg.head (at w (start w) [])
+taken-arrived_in _ keeps cfg now w n seg is small ack window k opened framed =
+    taken-checked keeps cfg now w n seg small ack window (ap expects is) (ap is_closed is) k opened framed
 
-taken-arrived : (cfg : Cfg) (now : ℕ) (w : Connection) (n : WireNo) (seg : Seg) → cfg.window < 2 ^ 16 → seg.head.ack < 2 ^ 32 → seg.head.window < 2 ^ 16 → IsKept cfg w → HasOpened w → IsFramed seg → (arrived_part cfg seg.head now (work (tcb_of w) (blank (map (head_of w.irs) w.held)))).verdict.take ≡ take_of cfg w seg now
+taken-arrived : AcknowledgementsKeep → (cfg : Cfg) (now : ℕ) (w : Connection) (n : WireNo) (seg : Seg) → cfg.window < 2 ^ 16 → seg.head.ack < 2 ^ 32 → seg.head.window < 2 ^ 16 → IsKept cfg w → HasOpened w → IsFramed seg → (arrived_part cfg seg.head now (work (tcb_of w) (blank (map (head_of w.irs) w.held)))).verdict.take ≡ take_of cfg w seg now
 unfolding arrived_part
-taken-arrived cfg now w n seg small ack window k opened framed =
+taken-arrived keeps cfg now w n seg small ack window k opened framed =
     ap (λ (x : Work). (arrived_part_in x.numbers.state cfg seg.head now x).verdict.take) (begin_as w)
-    ∙ taken-arrived_in w.state cfg now w n seg refl small ack window k opened framed
+    ∙ taken-arrived_in w.state keeps cfg now w n seg refl small ack window k opened framed
 
 -- as the code has it
-pub taken-of : (cfg : Cfg) (t : Tcb) (h : SegHead) (now : ℕ) (w : Connection) (n : WireNo) (seg : Seg) (heads : List HeldHead) (begun : Verdict) (new : Tcb) (v : Verdict) → cfg.window < 2 ^ 16 → h.ack < 2 ^ 32 → h.window < 2 ^ 16 → heads ≡ t.held.items → begun ≡ blank heads → work new v ≡ arrived_part cfg h now (work t begun) → Meets cfg t h w seg → v.take ≡ take_of cfg w seg now
-taken-of cfg t h now w n seg heads begun new v small ack window held blank_is is m =
+pub taken-of : AcknowledgementsKeep → (cfg : Cfg) (t : Tcb) (h : SegHead) (now : ℕ) (w : Connection) (n : WireNo) (seg : Seg) (heads : List HeldHead) (begun : Verdict) (new : Tcb) (v : Verdict) → cfg.window < 2 ^ 16 → h.ack < 2 ^ 32 → h.window < 2 ^ 16 → heads ≡ t.held.items → begun ≡ blank heads → work new v ≡ arrived_part cfg h now (work t begun) → Meets cfg t h w seg → v.take ≡ take_of cfg w seg now
+taken-of keeps cfg t h now w n seg heads begun new v small ack window held blank_is is m =
     ap (λ (x : Work). x.verdict.take) is
     ∙ ap (λ (b : Verdict). (arrived_part cfg h now (work t b)).verdict.take) (blank_is ∙ ap blank held)
-    ∙ ap (λ (x : Tcb). (arrived_part cfg h now (work x (blank x.held.items))).verdict.take) m.stands
+    ∙ ap (λ (x : Tcb). (arrived_part cfg h now (work x (blank x.held.items))).verdict.take) m.stands.numbers
     ∙ ap (λ (x : SegHead). (arrived_part cfg x now (work (tcb_of w) (blank (map (head_of w.irs) w.held)))).verdict.take) (sym m.head)
-    ∙ taken-arrived cfg now w n seg small (subst (λ (x : SegHead). x.ack < 2 ^ 32) (sym m.head) ack) (subst (λ (x : SegHead). x.window < 2 ^ 16) (sym m.head) window) m.kept m.opened m.framed
+    ∙ taken-arrived keeps cfg now w n seg small (subst (λ (x : SegHead). x.ack < 2 ^ 32) (sym m.head) ack) (subst (λ (x : SegHead). x.window < 2 ^ 16) (sym m.head) window) m.stands.kept m.stands.opened m.framed

@@ -32,7 +32,7 @@ use Rattle.ix_tcpdef.specs.declared.types.Told.{Told}
 use Rattle.ix_tcpdef.specs.declared.types.Told.TheVariants as told
 use Rattle.ix_base.specs.declared.segment.TheConstants.{FIN}
 use Rattle.ix_tcpdef.specs.Stands.{tcb_of, head_of}
-use Rattle.ix_tcpdef.proofs.NumberLemmas.{goes_on}
+use Rattle.ix_tcpin.proofs.PositionLemmas.{goes_on}
 use Rattle.ix_tcpin.specs.declared.text.Octets.{Octets as Places}
 use Rattle.ix_tcpin.specs.declared.verdict.HeldUse.{HeldUse}
 use Rattle.ix_tcpin.specs.declared.verdict.Take.TheVariants as takes

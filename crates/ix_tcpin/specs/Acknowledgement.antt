@@ -4,7 +4,7 @@ use Rattle.ix_base.specs.declared.segment.SegHead.{SegHead}
 use Rattle.ix_base.specs.Sequence.{ahead, is_past, is_at_or_past}
 use Rattle.ix_base.specs.Flags.{has_flag}
 use Rattle.ix_tcpdef.specs.Ticks.{later}
-use Rattle.ix_tcpdef.specs.Connection.{is_syn_received, is_time_wait, grown}
+use Rattle.ix_tcpdef.specs.Connection.{is_syn_received, is_time_wait, grown, threshold_after_loss}
 use Rattle.ix_tcpdef.specs.declared.types.Cfg.{Cfg}
 use Rattle.ix_tcpdef.specs.declared.types.State.{State}
 use Rattle.ix_tcpdef.specs.declared.types.State.TheVariants as st
@@ -33,7 +33,7 @@ abbrev pub is_repeated : SegHead → Tcb → Bool
 is_repeated h t = (h.ack == t.una) && not (t.una == t.nxt) && (h.len == 0) && not (has_flag h.flags FIN) && (h.window == t.wnd)
 
 abbrev pub threshold : Tcb → ℕ
-threshold t = max (ahead t.una t.nxt / 2) (2 * t.mss)
+threshold t = threshold_after_loss (ahead t.una t.nxt) t.mss
 
 unfoldable pub duplicated_numbers : SegHead → Tcb → Tcb
 duplicated_numbers h t =

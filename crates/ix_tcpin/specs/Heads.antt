@@ -1,7 +1,8 @@
 -- The heads of segments that are sent at once, over numbers.
-use Rattle.std.specs.Prelude.{ℕ, ◌+◌, ◌-◌, Some, None}
+use Rattle.std.specs.Prelude.{ℕ, ◌+◌, Some, None}
 use Rattle.ix_base.specs.declared.segment.SegHead.{SegHead}
 use Rattle.ix_base.specs.Sequence.{number}
+use Rattle.ix_tcpdef.specs.Connection.{offered_window}
 use Rattle.ix_tcpdef.specs.declared.types.Cfg.{Cfg}
 use Rattle.ix_tcpdef.specs.declared.types.Tcb.{Tcb}
 use Rattle.ix_base.specs.declared.segment.TheConstants.{ACK, RST, SYN}
@@ -9,7 +10,7 @@ use Rattle.ix_tcpdef.specs.declared.types.TheConstants.{BEHIND_HEADER, BEHIND_SY
 
 -- RCV.WND
 abbrev pub window : Cfg → Tcb → ℕ
-window cfg t = cfg.window - t.unread
+window cfg t = offered_window cfg t.unread
 
 -- an acknowledgement of its own
 abbrev pub ack_head : Cfg → Tcb → SegHead

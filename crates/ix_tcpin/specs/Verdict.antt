@@ -12,7 +12,6 @@ use Rattle.ix_tcpdef.specs.Acknowledgement.{acknowledgement}
 use Rattle.ix_tcpdef.specs.Body.{octets, is_apart, held_among, takes_body}
 use Rattle.ix_tcpdef.specs.Calls.{recv_of}
 use Rattle.ix_tcpdef.specs.Needs.{IsFramed}
-use Rattle.ix_tcpdef.specs.Sound.{IsKept}
 use Rattle.ix_tcpdef.specs.declared.types.Cfg.{Cfg}
 use Rattle.ix_tcpdef.specs.declared.types.State.{State}
 use Rattle.ix_tcpdef.specs.declared.types.State.TheVariants as st
@@ -28,7 +27,7 @@ use Rattle.ix_tcpdef.specs.declared.types.Tcb.{Tcb}
 use Rattle.ix_tcpdef.specs.declared.types.Told.{Told}
 use Rattle.ix_tcpdef.specs.declared.types.Told.TheVariants as told
 use Rattle.ix_base.specs.declared.segment.TheConstants.{FIN}
-use Rattle.ix_tcpdef.specs.Stands.{tcb_of, HasOpened}
+use Rattle.ix_tcpdef.specs.Stands.{StandsFor}
 use Rattle.ix_tcpin.specs.declared.verdict.HeldUse.{HeldUse}
 use Rattle.ix_tcpin.specs.declared.verdict.HeldUse.TheVariants as uses
 use Rattle.ix_tcpin.specs.declared.verdict.Take.{Take}
@@ -36,13 +35,11 @@ use Rattle.ix_tcpin.specs.declared.verdict.Take.TheVariants as takes
 use Rattle.ix_tcpin.specs.declared.verdict.Verdict.{Verdict}
 
 -- ## Of what a verdict speaks
--- a segment with this head arrives at a connection that keeps its standing condition, and that these numbers stand for
+-- a segment with this head arrives at a connection that these numbers stand for
 pub record Meets (cfg : Cfg) (t : Tcb) (h : SegHead) (w : Connection) (seg : Seg) : Type 0 where
-  pub kept : IsKept cfg w
-  pub opened : HasOpened w
+  pub stands : StandsFor cfg t w
   pub framed : IsFramed seg
   pub head : seg.head ≡ h
-  pub stands : t ≡ tcb_of w
 
 -- ## What is delivered
 -- the part of the body between these places
@@ -81,11 +78,15 @@ kept_held [] us = []
 kept_held (s ∷ ss) [] = []
 kept_held (s ∷ ss) (u ∷ us) = stays s u ++ kept_held ss us
 
+-- the position at which octets behind a hole begin
+abbrev pub held_at : Connection → Seg → ℕ
+held_at w seg = w.rcv + past_of (seq_of w seg.head)
+
 -- a part of the body that is held, with its FIN where it reaches the body's end
 abbrev pub body_held : Connection → WireNo → Seg → ℕ → ℕ → HeldSegment
 body_held w n seg from to =
     record {
-      at = w.rcv + past_of (seq_of w seg.head);
+      at = held_at w seg;
       w = n;
       from = seg.head.at + from;
       bytes = take (to - from) (drop from seg.body);

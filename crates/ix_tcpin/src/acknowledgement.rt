@@ -24,14 +24,10 @@ ghost use Rattle.ix_tcpin.specs.Acknowledgement.{
 };
 
 use crate::heads::{ack_head, reset_head};
-use crate::numbers::{ahead, has_flag, is_at_or_past, is_past, later};
 use crate::verdict::Verdict;
-use crate::words::{announce, end, grown, is_syn_received, is_time_wait, tell};
-use ix_base::{FIN, SegHead};
-use ix_tcpdef::{Cfg, State, Tcb, Told};
-
-/// How many duplicate acknowledgements came before the one that starts fast retransmit.
-const DUPLICATES_BEFORE: u8 = 2;
+use crate::words::{announce, end, tell};
+use ix_base::{FIN, SegHead, SeqNumber, has_flag};
+use ix_tcpdef::{Cfg, DUPLICATES_BEFORE, State, Tcb, Told, grown, later, threshold_after_loss};
 
 /// The connection is established.
 fn establish(head: &SegHead, tcb: &mut Tcb)
@@ -54,7 +50,8 @@ fn establishing(head: &SegHead, tcb: &mut Tcb, verdict: &mut Verdict) -> bool
     ensures few { array_vec_len verdict.new.told ≤ array_vec_len verdict.old.told + 1 }
     ensures step { course result (work tcb.new verdict.new) ≡ establishing_part head.now (work tcb.old verdict.old) }
 {
-    if !is_past(tcb.una, head.ack) || is_past(tcb.nxt, head.ack) {
+    let ack = SeqNumber(head.ack);
+    if !ack.is_past(SeqNumber(tcb.una)) || ack.is_past(SeqNumber(tcb.nxt)) {
         verdict.reply = Some(reset_head(tcb, head));
         return true;
     }
@@ -69,7 +66,7 @@ fn too_far(cfg: &Cfg, head: &SegHead, tcb: &Tcb, verdict: &mut Verdict) -> bool
     ensures told { verdict.new.told ≡ verdict.old.told }
     ensures step { course result (work tcb.now verdict.new) ≡ too_far_part cfg.now head.now (work tcb.now verdict.old) }
 {
-    if !is_past(tcb.nxt, head.ack) {
+    if !SeqNumber(head.ack).is_past(SeqNumber(tcb.nxt)) {
         return false;
     }
     verdict.reply = Some(ack_head(cfg, tcb));
@@ -91,8 +88,8 @@ fn is_repeated(head: &SegHead, tcb: &Tcb) -> bool
 fn threshold(tcb: &Tcb) -> u32
     ensures { result ≡ threshold_of tcb.now }
 {
-    let mss = tcb.mss;
-    (ahead(tcb.una, tcb.nxt) / 2).max(2 * u32::from(mss))
+    let flight = SeqNumber(tcb.una).ahead(SeqNumber(tcb.nxt));
+    threshold_after_loss(flight, tcb.mss)
 }
 
 /// Counts a duplicate acknowledgement: fast retransmit at the third, and fast recovery from then on (RFC 5681, section 3.2).
@@ -143,8 +140,10 @@ fn widened(octets: u32, tcb: &Tcb) -> u32
 fn acked_bytes(head: &SegHead, tcb: &Tcb) -> u32
     ensures { result ≡ acked_bytes_of head.now tcb.now }
 {
-    if is_past(tcb.una, head.ack) {
-        ahead(tcb.una, head.ack).min(tcb.queued)
+    let una = SeqNumber(tcb.una);
+    let ack = SeqNumber(head.ack);
+    if ack.is_past(una) {
+        una.ahead(ack).min(tcb.queued)
     } else {
         0
     }
@@ -156,10 +155,12 @@ fn advance(cfg: &Cfg, head: &SegHead, now: u64, tcb: &mut Tcb)
     requires { 0 < tcb.old.cwnd }
     ensures { tcb.new ≡ advanced_numbers cfg.now head.now now tcb.old }
 {
-    if !is_past(tcb.una, head.ack) {
+    let una = SeqNumber(tcb.una);
+    let ack = SeqNumber(head.ack);
+    if !ack.is_past(una) {
         return;
     }
-    let octets = ahead(tcb.una, head.ack);
+    let octets = una.ahead(ack);
     tcb.cwnd = widened(octets, tcb);
     tcb.recovering = false;
     tcb.dups = 0;
@@ -178,7 +179,9 @@ fn advance(cfg: &Cfg, head: &SegHead, now: u64, tcb: &mut Tcb)
 fn is_later(head: &SegHead, tcb: &Tcb) -> bool
     ensures { result ≡ later_test head.now tcb.now }
 {
-    is_past(tcb.wl1, head.seq) || tcb.wl1 == head.seq && is_at_or_past(tcb.wl2, head.ack)
+    let is_last = tcb.wl1 == head.seq;
+    SeqNumber(head.seq).is_past(SeqNumber(tcb.wl1))
+        || is_last && SeqNumber(head.ack).is_at_or_past(SeqNumber(tcb.wl2))
 }
 
 /// Clears the persist timer.
@@ -186,7 +189,7 @@ fn unpersist(tcb: &mut Tcb)
     ensures { tcb.new ≡ unpersisted_numbers tcb.old }
 {
     tcb.expiries = 0;
-    if !is_time_wait(tcb.state) {
+    if !tcb.state.is_time_wait() {
         tcb.deadline = None;
     }
 }
@@ -196,7 +199,7 @@ fn unpersist(tcb: &mut Tcb)
 fn take_window(head: &SegHead, before: u32, tcb: &mut Tcb)
     ensures { tcb.new ≡ windowed_numbers head.now before tcb.old }
 {
-    if !(is_at_or_past(before, head.ack) && is_later(head, tcb)) {
+    if !(SeqNumber(head.ack).is_at_or_past(SeqNumber(before)) && is_later(head, tcb)) {
         return;
     }
     tcb.wnd = u32::from(head.window);
@@ -307,7 +310,7 @@ pub fn acknowledgement(
     ensures few { array_vec_len verdict.new.told ≤ array_vec_len verdict.old.told + 1 }
     ensures step { course result (work tcb.new verdict.new) ≡ acknowledgement_part cfg.now head.now now (work tcb.old verdict.old) }
 {
-    if is_syn_received(tcb.state) {
+    if tcb.state.is_syn_received() {
         return establishing(head, tcb, verdict);
     }
     synchronized(cfg, head, now, tcb, verdict)

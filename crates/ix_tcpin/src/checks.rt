@@ -1,7 +1,7 @@
 // The first checks of a segment in SYN-RECEIVED and later.
 ghost use Rattle.std.specs.Prelude.{◌≡◌, ◌≤◌, ◌+◌, ◌^◌, ◌-ℤ◌, ◌≤ℤ◌, ◌<ℤ◌, pos, false};
 ghost use Rattle.arrayvec.specs.ArrayVec.{array_vec_len};
-ghost use Rattle.ix_tcpdef.specs.Arrival.{span as span_of, is_acceptable as acceptable_test};
+ghost use Rattle.ix_base.specs.Sequence.{past_of};
 ghost use Rattle.ix_tcpin.specs.Work.{work, course};
 ghost use Rattle.ix_tcpin.specs.Checks.{
   distance as distance_of,
@@ -11,12 +11,11 @@ ghost use Rattle.ix_tcpin.specs.Checks.{
   unacknowledged_part,
 };
 
-use crate::heads::{ack_head, window};
-use crate::numbers::{has_flag, is_next, later, lies_in, offset};
+use crate::heads::ack_head;
 use crate::verdict::Verdict;
-use crate::words::{end, is_syn_received, is_time_wait, tell};
-use ix_base::{ACK, FIN, RST, SYN, SegHead};
-use ix_tcpdef::{Cfg, Tcb, Told};
+use crate::words::{end, tell};
+use ix_base::{ACK, FIN, RST, SYN, SegHead, SeqNumber, has_flag, past};
+use ix_tcpdef::{Cfg, Tcb, Told, is_acceptable, later, offered_window, span};
 
 /// How far a segment begins past what is expected.
 pub fn distance(tcb: &Tcb, head: &SegHead) -> i64
@@ -24,36 +23,14 @@ pub fn distance(tcb: &Tcb, head: &SegHead) -> i64
     ensures low { (pos 0 -ℤ pos (2 ^ 31)) ≤ℤ result }
     ensures high { result <ℤ pos (2 ^ 31) }
 {
-    offset(tcb.rcv_nxt, head.seq)
+    SeqNumber(tcb.rcv_nxt).offset(SeqNumber(head.seq))
 }
 
-/// Everything that a segment takes up.
-fn span(head: &SegHead) -> u32
-    ensures value { result ≡ span_of head.now }
-    ensures bound { result ≤ 65537 }
+/// How far a segment begins past what is expected; 0 where it begins before it.
+pub fn past_expected(tcb: &Tcb, head: &SegHead) -> u32
+    ensures { result ≡ past_of (distance_of tcb.now head.now) }
 {
-    let syn = if has_flag(head.flags, SYN) { 1 } else { 0 };
-    let fin = if has_flag(head.flags, FIN) { 1 } else { 0 };
-    u32::from(head.len) + syn + fin
-}
-
-/// Whether so many octets from this one on are acceptable.
-fn is_acceptable(octets: u32, window: u16, first: i64) -> bool
-    requires octets { octets ≤ 65537 }
-    requires low { (pos 0 -ℤ pos (2 ^ 31)) ≤ℤ first }
-    requires high { first <ℤ pos (2 ^ 31) }
-    ensures { result ≡ acceptable_test octets window first }
-{
-    if octets == 0 {
-        if window == 0 {
-            is_next(first)
-        } else {
-            lies_in(window, first)
-        }
-    } else {
-        let last = first + i64::from(octets - 1);
-        window > 0 && (lies_in(window, first) || lies_in(window, last))
-    }
+    past(distance(tcb, head)) as u32
 }
 
 /// First: the sequence number. Each check answers whether the segment is done with.
@@ -69,14 +46,18 @@ pub fn acceptability(
     ensures verdict { result ≡ false → verdict.new ≡ verdict.old }
     ensures step { course result (work tcb.new verdict.new) ≡ acceptability_part cfg.now head.now now (work tcb.old verdict.old) }
 {
-    if is_acceptable(span(head), window(cfg, tcb), distance(tcb, head)) {
+    if is_acceptable(
+        span(head),
+        offered_window(cfg, tcb.unread),
+        distance(tcb, head),
+    ) {
         return false;
     }
     if has_flag(head.flags, RST) {
         return true;
     }
     verdict.reply = Some(ack_head(cfg, tcb));
-    if has_flag(head.flags, FIN) && is_time_wait(tcb.state) {
+    if has_flag(head.flags, FIN) && tcb.state.is_time_wait() {
         tcb.deadline = Some(later(now, cfg.time_wait));
     }
     true
@@ -112,7 +93,7 @@ pub fn synchronize(cfg: &Cfg, head: &SegHead, tcb: &mut Tcb, verdict: &mut Verdi
     if !has_flag(head.flags, SYN) {
         return false;
     }
-    if is_syn_received(tcb.state) {
+    if tcb.state.is_syn_received() {
         end(tcb, verdict);
         return true;
     }

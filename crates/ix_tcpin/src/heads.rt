@@ -1,22 +1,13 @@
 // The heads of segments that are sent at once.
 ghost use Rattle.std.specs.Prelude.{◌≡◌};
 ghost use Rattle.ix_tcpin.specs.Heads.{
-  window as window_of,
   ack_head as ack_head_of,
   reset_head as reset_head_of,
   syn_ack_head as syn_ack_head_of,
 };
 
-use crate::numbers::number;
-use ix_base::{ACK, RST, SYN, SegHead};
-use ix_tcpdef::{BEHIND_HEADER, BEHIND_SYN, Cfg, Tcb};
-
-/// The window that is offered to the peer.
-pub fn window(cfg: &Cfg, tcb: &Tcb) -> u16
-    ensures { result ≡ window_of cfg.now tcb.now }
-{
-    u32::from(cfg.window).saturating_sub(tcb.unread) as u16
-}
+use ix_base::{ACK, RST, SYN, SegHead, SeqNumber};
+use ix_tcpdef::{BEHIND_HEADER, BEHIND_SYN, Cfg, Tcb, offered_window};
 
 /// An acknowledgement of its own.
 pub fn ack_head(cfg: &Cfg, tcb: &Tcb) -> SegHead
@@ -28,7 +19,7 @@ pub fn ack_head(cfg: &Cfg, tcb: &Tcb) -> SegHead
         seq: tcb.nxt,
         ack: tcb.rcv_nxt,
         flags: ACK,
-        window: window(cfg, tcb),
+        window: offered_window(cfg, tcb.unread),
         mss: None,
         len: 0,
         at: BEHIND_HEADER,
@@ -59,10 +50,10 @@ pub fn syn_ack_head(cfg: &Cfg, tcb: &Tcb) -> SegHead
     SegHead {
         flow: tcb.flow,
         peer_mac: tcb.peer_mac,
-        seq: number(tcb.iss, 0),
+        seq: SeqNumber(tcb.iss).at(0).0,
         ack: tcb.rcv_nxt,
         flags: SYN + ACK,
-        window: window(cfg, tcb),
+        window: offered_window(cfg, tcb.unread),
         mss: Some(cfg.mss),
         len: 0,
         at: BEHIND_SYN,

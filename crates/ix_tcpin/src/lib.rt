@@ -6,13 +6,12 @@ mod acknowledgement;
 mod arrival;
 mod checks;
 mod heads;
-mod numbers;
 mod opening;
 mod text;
 mod verdict;
 mod words;
 
-pub use arrival::arrive;
+pub use arrival::{arrive, held_place};
 pub use verdict::{HeldUse, Take, Uses, Verdict};
 
 #[cfg(test)]

@@ -1,7 +1,6 @@
 // How a connection opens.
 ghost use Rattle.std.specs.Prelude.{◌≡◌, ◌≤◌};
 ghost use Rattle.arrayvec.specs.ArrayVec.{array_vec_len};
-ghost use Rattle.ix_tcpdef.specs.Opening.{send_mss as send_mss_of, opens as opens_test};
 ghost use Rattle.ix_tcpin.specs.Work.{work};
 ghost use Rattle.ix_tcpin.specs.Opening.{
   passive_numbers,
@@ -11,36 +10,10 @@ ghost use Rattle.ix_tcpin.specs.Opening.{
 };
 
 use crate::heads::{reset_head, syn_ack_head};
-use crate::numbers::{has_flag, later, number};
 use crate::verdict::Verdict;
-use crate::words::{announce, end, initial_window};
-use ix_base::{ACK, RST, SYN, SegHead};
-use ix_tcpdef::{Cfg, State, Tcb, Told};
-
-/// The largest body of a segment to a peer that has no option (RFC 9293, section 3.7.1).
-const DEFAULT_MSS: u16 = 536;
-
-const LEAST_MSS: u16 = 64;
-
-/// The threshold of slow start before any loss.
-const FIRST_THRESHOLD: u32 = 65_535;
-
-/// The largest body that is sent to a peer with this option.
-fn send_mss(cfg: &Cfg, option: Option<u16>) -> u16
-    ensures { result ≡ send_mss_of cfg.now option }
-{
-    match option {
-        Some(mss) => mss.min(cfg.mss).max(LEAST_MSS),
-        None => DEFAULT_MSS.min(cfg.mss).max(LEAST_MSS),
-    }
-}
-
-/// Whether a segment opens a connection.
-fn opens(head: &SegHead) -> bool
-    ensures { result ≡ opens_test head.now }
-{
-    !has_flag(head.flags, RST) && !has_flag(head.flags, ACK) && has_flag(head.flags, SYN)
-}
+use crate::words::{announce, end};
+use ix_base::{ACK, RST, SYN, SegHead, SeqNumber, has_flag};
+use ix_tcpdef::{Cfg, FIRST_THRESHOLD, State, Tcb, Told, initial_window, later, opens, send_mss};
 
 /// The peer's SYN is taken.
 fn open(cfg: &Cfg, head: &SegHead, now: u64, tcb: &mut Tcb)
@@ -50,9 +23,9 @@ fn open(cfg: &Cfg, head: &SegHead, now: u64, tcb: &mut Tcb)
     tcb.state = State::SynReceived;
     tcb.irs = head.seq;
     tcb.mss = mss;
-    tcb.una = number(tcb.iss, 0);
-    tcb.nxt = number(tcb.iss, 1);
-    tcb.rcv_nxt = number(head.seq, 1);
+    tcb.una = SeqNumber(tcb.iss).at(0).0;
+    tcb.nxt = SeqNumber(tcb.iss).at(1).0;
+    tcb.rcv_nxt = SeqNumber(head.seq).at(1).0;
     tcb.wnd = u32::from(head.window);
     tcb.wl1 = head.seq;
     tcb.wl2 = tcb.iss;
@@ -81,8 +54,8 @@ fn connect(cfg: &Cfg, head: &SegHead, tcb: &mut Tcb)
     tcb.state = State::Established;
     tcb.irs = head.seq;
     tcb.mss = mss;
-    tcb.una = number(tcb.iss, 1);
-    tcb.rcv_nxt = number(head.seq, 1);
+    tcb.una = SeqNumber(tcb.iss).at(1).0;
+    tcb.rcv_nxt = SeqNumber(head.seq).at(1).0;
     tcb.wnd = u32::from(head.window);
     tcb.wl1 = head.seq;
     tcb.wl2 = head.ack;
@@ -105,7 +78,7 @@ pub fn syn_sent(cfg: &Cfg, head: &SegHead, tcb: &mut Tcb, verdict: &mut Verdict)
 {
     let has_ack = has_flag(head.flags, ACK);
     let has_reset = has_flag(head.flags, RST);
-    if has_ack && head.ack != number(tcb.iss, 1) {
+    if has_ack && head.ack != SeqNumber(tcb.iss).at(1).0 {
         if has_reset {
             return;
         }

@@ -2,7 +2,6 @@
 ghost use Rattle.std.specs.Prelude.{◌≡◌, ◌≤◌, ◌<◌, ◌+◌, ◌^◌, ◌-ℤ◌, ◌≤ℤ◌, ◌<ℤ◌, pos, false, [], length};
 ghost use Rattle.std.specs.List.{list_all};
 ghost use Rattle.arrayvec.specs.ArrayVec.{array_vec_len};
-ghost use Rattle.ix_tcpdef.specs.Body.{takes_body as takes_body_test};
 ghost use Rattle.ix_tcpin.specs.Work.{work};
 ghost use Rattle.ix_tcpin.specs.Text.{
   octets_in,
@@ -25,16 +24,12 @@ ghost use Rattle.ix_tcpin.specs.Text.{
 };
 
 use crate::checks::distance;
-use crate::heads::{ack_head, window};
-use crate::numbers::{ahead, behind, has_flag, is_next, is_past, later, past};
+use crate::heads::ack_head;
 use crate::verdict::{HeldUse, Take, Uses, Verdict, drop_kept, keep};
 use crate::words::tell;
 use arrayvec::ArrayVec;
-use ix_base::{FIN, SegHead};
-use ix_tcpdef::{Cfg, HeldHead, State, Tcb, Told};
-
-/// How many segments are held out of order.
-const MOST_HELD: usize = 8;
+use ix_base::{FIN, SegHead, SeqNumber, behind, has_flag, is_next, past};
+use ix_tcpdef::{Cfg, HeldHead, MOST_HELD, State, Tcb, Told, later, offered_window};
 
 /// The octets of a body that lie in the window.
 #[derive(Clone, Copy)]
@@ -57,7 +52,7 @@ fn octets_within(window: u16, distance: i64, len: u16) -> Octets
     ensures within { result.to ≤ len }
     ensures value { result ≡ octets_in window distance len }
 {
-    let past = past(distance);
+    let past = past(distance) as u32;
     let behind = behind(distance);
     let room = u32::from(window).saturating_sub(past);
     let from = behind.min(u64::from(len)) as u16;
@@ -75,7 +70,7 @@ fn advance(n: u32, tcb: &mut Tcb)
     ensures held { tcb.new.held ≡ tcb.old.held }
     ensures value { tcb.new ≡ moved_of n tcb.old }
 {
-    tcb.rcv_nxt = tcb.rcv_nxt.wrapping_add(n);
+    tcb.rcv_nxt = SeqNumber(tcb.rcv_nxt).advanced(n).0;
     tcb.ack_owed = true;
     if !tcb.shut {
         tcb.unread = tcb.unread.saturating_add(n);
@@ -83,10 +78,10 @@ fn advance(n: u32, tcb: &mut Tcb)
 }
 
 /// The number behind a held segment's octets.
-fn end_of(held: &HeldHead) -> u32
-    ensures { result ≡ end_number held.now }
+fn end_of(held: &HeldHead) -> SeqNumber
+    ensures { result.0 ≡ end_number held.now }
 {
-    held.at.wrapping_add(u32::from(held.len))
+    SeqNumber(held.at).advanced(u32::from(held.len))
 }
 
 /// What is made of a held segment that is reached.
@@ -96,7 +91,7 @@ fn rest_use(tcb: &Tcb, held: &HeldHead) -> HeldUse
     if tcb.shut {
         return HeldUse::Drop;
     }
-    let skip = ahead(held.at, tcb.rcv_nxt);
+    let skip = SeqNumber(held.at).ahead(SeqNumber(tcb.rcv_nxt));
     HeldUse::Deliver {
         from: skip.min(u32::from(held.len)) as u16,
     }
@@ -114,17 +109,18 @@ fn fill(own_fin: bool, tcb: &mut Tcb, uses: &mut Uses) -> bool
     let mut fin = own_fin;
     while let Some(first) = tcb.held.get(0) {
         let head = *first;
-        if is_past(tcb.rcv_nxt, head.at) {
+        let expected = SeqNumber(tcb.rcv_nxt);
+        if SeqNumber(head.at).is_past(expected) {
             break;
         }
         tcb.held.remove(0);
         let end = end_of(&head);
-        if !is_past(tcb.rcv_nxt, end) {
+        if !end.is_past(expected) {
             uses.push(HeldUse::Drop);
             continue;
         }
         uses.push(rest_use(tcb, &head));
-        advance(ahead(tcb.rcv_nxt, end), tcb);
+        advance(expected.ahead(end), tcb);
         fin = head.fin;
     }
     keep(tcb.held.as_slice(), uses);
@@ -144,31 +140,31 @@ fn taken_body(tcb: &Tcb, octets: Octets) -> Take
 }
 
 /// Whether octets share none with a held segment.
-fn is_beside(expected: u32, octets: Octets, held: &HeldHead) -> bool
+fn is_beside(expected: SeqNumber, octets: Octets, held: &HeldHead) -> bool
     requires { octets.from ≤ octets.to }
-    ensures { result ≡ beside_test expected octets held.now }
+    ensures { result ≡ beside_test expected.0 octets held.now }
 {
-    let begin = u64::from(ahead(expected, held.at));
+    let begin = u64::from(expected.ahead(SeqNumber(held.at)));
     let end = begin + u64::from(held.len);
     let past = u64::from(octets.past);
     past + u64::from(octets.to - octets.from) <= begin || end <= past
 }
 
-fn is_beside_all(expected: u32, octets: Octets, held: &[HeldHead]) -> bool
+fn is_beside_all(expected: SeqNumber, octets: Octets, held: &[HeldHead]) -> bool
     requires { octets.from ≤ octets.to }
-    ensures { result ≡ list_all (beside_test expected octets) held.now }
+    ensures { result ≡ list_all (beside_test expected.0 octets) held.now }
 {
     held.iter().all(|head| is_beside(expected, octets, head))
 }
 
 /// How many held segments begin before octets that are so far past what is expected.
 #[tactic(auto, using(crate::proofs::HeldLemmas::place_here, crate::proofs::HeldLemmas::place_next, crate::proofs::HeldLemmas::place_last))]
-fn place_among(expected: u32, past: u32, held: &[HeldHead]) -> usize
+pub fn place_among(expected: SeqNumber, past: u32, held: &[HeldHead]) -> usize
     ensures within { result ≤ length held.now }
-    ensures value { result ≡ place_of expected past held.now }
+    ensures value { result ≡ place_of expected.0 past held.now }
 {
     for (place, head) in held.iter().enumerate() {
-        if past < ahead(expected, head.at) {
+        if past < expected.ahead(SeqNumber(head.at)) {
             return place;
         }
     }
@@ -182,14 +178,14 @@ fn hold(octets: Octets, fin: bool, tcb: &mut Tcb, verdict: &mut Verdict)
     ensures told { verdict.new.told ≡ verdict.old.told }
     ensures step { work tcb.new verdict.new ≡ waiting_part octets fin (work tcb.old verdict.old) }
 {
-    let expected = tcb.rcv_nxt;
+    let expected = SeqNumber(tcb.rcv_nxt);
     let held = tcb.held.as_slice();
     if held.len() >= MOST_HELD || !is_beside_all(expected, octets, held) {
         return;
     }
     let place = place_among(expected, octets.past, held);
     let head = HeldHead {
-        at: expected.wrapping_add(octets.past),
+        at: expected.advanced(octets.past).0,
         len: octets.to - octets.from,
         fin,
     };
@@ -221,15 +217,6 @@ fn receive(cfg: &Cfg, octets: Octets, fin: bool, tcb: &mut Tcb, verdict: &mut Ve
     stands
 }
 
-fn takes_body(state: State) -> bool
-    ensures { result ≡ takes_body_test state }
-{
-    matches!(
-        state,
-        State::Established | State::FinWait1 | State::FinWait2
-    )
-}
-
 /// Whether the segment's own FIN stands at what is expected.
 fn stands_next(head: &SegHead, tcb: &Tcb) -> bool
     ensures { result ≡ stands_test head.now tcb.now }
@@ -244,10 +231,14 @@ fn take_body(cfg: &Cfg, head: &SegHead, tcb: &mut Tcb, verdict: &mut Verdict) ->
     ensures told { verdict.new.told ≡ verdict.old.told }
     ensures step { texted (work tcb.new verdict.new) result ≡ body_part cfg.now head.now (work tcb.old verdict.old) }
 {
-    if !takes_body(tcb.state) {
+    if !tcb.state.takes_body() {
         return stands_next(head, tcb);
     }
-    let octets = octets_within(window(cfg, tcb), distance(tcb, head), head.len);
+    let octets = octets_within(
+        offered_window(cfg, tcb.unread),
+        distance(tcb, head),
+        head.len,
+    );
     if octets.to == octets.from {
         return stands_next(head, tcb);
     }
@@ -261,7 +252,7 @@ fn take_fin(cfg: &Cfg, now: u64, tcb: &mut Tcb, verdict: &mut Verdict)
     requires { array_vec_len verdict.old.told ≤ 3 }
     ensures { work tcb.new verdict.new ≡ fin_part cfg.now now (work tcb.old verdict.old) }
 {
-    tcb.rcv_nxt = tcb.rcv_nxt.wrapping_add(1);
+    tcb.rcv_nxt = SeqNumber(tcb.rcv_nxt).advanced(1).0;
     tcb.ack_owed = true;
     tcb.held = ArrayVec::new();
     verdict.held = drop_kept(&verdict.held);
@@ -290,7 +281,7 @@ fn finish(cfg: &Cfg, head: &SegHead, now: u64, stands: bool, tcb: &mut Tcb, verd
         return;
     }
     let has_fin = has_flag(head.flags, FIN) && head.len == 0;
-    if has_fin && is_past(tcb.rcv_nxt, head.seq) {
+    if has_fin && SeqNumber(head.seq).is_past(SeqNumber(tcb.rcv_nxt)) {
         verdict.reply = Some(ack_head(cfg, tcb));
     }
 }

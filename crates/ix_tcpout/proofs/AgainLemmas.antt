@@ -13,7 +13,7 @@ use Rattle.ix_tcpdef.specs.declared.types.State.{State}
 use Rattle.ix_tcpdef.specs.declared.types.State.TheVariants as st
 use Rattle.ix_tcpdef.specs.declared.types.Connection.{Connection}
 use Rattle.ix_tcpdef.specs.Stands.{tcb_of, send_queue}
-use Rattle.ix_tcpdef.proofs.NumberLemmas.{counts_ahead}
+use Rattle.ix_tcpout.proofs.NumberLemmas.{counts_ahead}
 use Rattle.ix_tcpout.specs.Heads.{sent_bytes, bytes, first_again, again_in}
 use Rattle.ix_tcpout.specs.Given.{frame_of}
 use Rattle.ix_tcpout.specs.Sending.{IsSending}

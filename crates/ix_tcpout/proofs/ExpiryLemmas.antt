@@ -20,9 +20,10 @@ use Rattle.ix_tcpdef.specs.declared.types.Input.TheVariants as inputs
 use Rattle.ix_tcpdef.specs.declared.types.Output.TheVariants as outputs
 use Rattle.ix_tcpdef.specs.declared.types.Told.TheVariants as told
 use Rattle.ix_base.specs.declared.segment.TheConstants.{ACK}
-use Rattle.ix_tcpdef.specs.Stands.{tcb_of, send_queue, HasOpened}
+use Rattle.ix_tcpdef.specs.Sound.{HasOpened}
+use Rattle.ix_tcpdef.specs.Stands.{tcb_of, send_queue}
 use Rattle.ix_tcpout.specs.Heads.{again_in}
-use Rattle.ix_tcpout.specs.Given.{frame_of, outputs_of, has_ended, start}
+use Rattle.ix_tcpout.specs.Given.{frame_of, outputs_of, has_ended, LeavesBytes, start}
 use Rattle.ix_tcpout.specs.Sending.{IsSending}
 use Rattle.ix_tcpout.specs.Expiry.{Fired, one, ending, closed, timeout_in, collapse_in, counted, retransmission, probe, fired}
 use Rattle.ix_tcpout.proofs.AgainLemmas.{Orders, again_stands}
@@ -32,6 +33,7 @@ use Rattle.ix_tcpout.proofs.PartLemmas.{flight_is, flight_test, flies}
 pub record FiresAs (w : Connection) (f : Fired) (j : Job) : Type 0 where
   pub numbers : f.numbers ≡ tcb_of j.connection
   pub outputs : outputs_of (send_queue w) f.outs ≡ j.outputs
+  pub bytes : LeavesBytes w j.connection
   pub ended : f.outs.ended ≡ has_ended w j.connection
 
 pub sending : (cfg : Cfg) (w : Connection) → is_alive w.state ≡ true → IsKept cfg w → IsSending w
@@ -53,16 +55,23 @@ lives w v alive = rw (alive-open v.state alive) (by_test (not (is_closed w.state
     by_test true = refl
     by_test false = refl
 
+-- what is held of a connection that ended or not, by how it ended
+held_by : (w : Connection) (b : Bool) (ended : Bool) → b ≡ ended → (if b then [] else w.held) ≡ (if ended then [] else w.held)
+held_by w b ended e = ap (λ (x : Bool). if x then [] else w.held) e
+
+bytes_ended : (w : Connection) → is_alive w.state ≡ true → LeavesBytes w (ended w)
+bytes_ended w alive = record { sent = refl; queue = refl; pieces = refl; held = held_by w true _ (ends w (ended w) alive refl) }
+
 -- ## Too often
 timed_out_as : (s : State) (w : Connection) → w.state ≡ s → is_alive s ≡ true → FiresAs w (record { numbers = closed (tcb_of w); outs = ending (timeout_in s (tcb_of w)) }) (if is_syn_sent s then gives (on (start w) (ended w)) (outputs.Told told.ConnectedTimeout) else tells (on (start w) (ended w)) told.DeadTimeout)
 timed_out_as st.Listen w is alive = cc
 timed_out_as st.Closed w is alive = cc
-timed_out_as st.SynSent w is alive = record { numbers = refl; outputs = refl; ended = ends w (ended w) (ap is_alive is ∙ alive) refl }
+timed_out_as st.SynSent w is alive = record { numbers = refl; outputs = refl; bytes = bytes_ended w (ap is_alive is ∙ alive); ended = ends w (ended w) (ap is_alive is ∙ alive) refl }
 timed_out_as _ w is alive = by_test (w.accepted && not w.shut)
   where
     by_test : (b : Bool) → FiresAs w (record { numbers = closed (tcb_of w); outs = ending (if b then Some told.DeadTimeout else None) }) (if b then gives (on (start w) (ended w)) (outputs.Told told.DeadTimeout) else on (start w) (ended w))
-    by_test true = record { numbers = refl; outputs = refl; ended = ends w (ended w) (ap is_alive is ∙ alive) refl }
-    by_test false = record { numbers = refl; outputs = refl; ended = ends w (ended w) (ap is_alive is ∙ alive) refl }
+    by_test true = record { numbers = refl; outputs = refl; bytes = bytes_ended w (ap is_alive is ∙ alive); ended = ends w (ended w) (ap is_alive is ∙ alive) refl }
+    by_test false = record { numbers = refl; outputs = refl; bytes = bytes_ended w (ap is_alive is ∙ alive); ended = ends w (ended w) (ap is_alive is ∙ alive) refl }
 
 -- ## Sent again
 collapse_as : (s : State) (w : Connection) → Orders w → collapse_in s (tcb_of w) ≡ tcb_of (collapsed_in s w)
@@ -73,13 +82,16 @@ collapse_as _ w o = rw (flight_is w o) refl
 -- what a retransmission leaves of the connection
 record Same (w v : Connection) : Type 0 where
   state : v.state ≡ w.state
+  sent : v.sent ≡ w.sent
   queue : send_queue v ≡ send_queue w
+  pieces : v.pieces ≡ w.pieces
+  held : v.held ≡ w.held
   sending : IsSending w → IsSending v
 
 same-collapsed : (s : State) (w : Connection) (expiries : ℕ) (d : Option ℕ) → Same w (record (collapsed_in s w) { expiries = expiries; deadline = d })
-same-collapsed st.SynSent w e d = record { state = refl; queue = refl; sending = λ s. record { alive = s.alive; sender = s.sender; mss = s.mss } }
-same-collapsed st.SynReceived w e d = record { state = refl; queue = refl; sending = λ s. record { alive = s.alive; sender = s.sender; mss = s.mss } }
-same-collapsed _ w e d = record { state = refl; queue = refl; sending = λ s. record { alive = s.alive; sender = s.sender; mss = s.mss } }
+same-collapsed st.SynSent w e d = record { state = refl; sent = refl; queue = refl; pieces = refl; held = refl; sending = λ s. record { alive = s.alive; sender = s.sender; mss = s.mss } }
+same-collapsed st.SynReceived w e d = record { state = refl; sent = refl; queue = refl; pieces = refl; held = refl; sending = λ s. record { alive = s.alive; sender = s.sender; mss = s.mss } }
+same-collapsed _ w e d = record { state = refl; sent = refl; queue = refl; pieces = refl; held = refl; sending = λ s. record { alive = s.alive; sender = s.sender; mss = s.mss } }
 
 sent_again : (cfg : Cfg) (now : ℕ) (w v : Connection) → IsSending w → Same w v → FiresAs w (record { numbers = tcb_of v; outs = one (again_in w.state cfg (tcb_of v)) }) (gives (on (start w) v) (first_unacked cfg v))
 sent_again cfg now w v s same =
@@ -89,6 +101,7 @@ sent_again cfg now w v s same =
           ap (λ (q : List ℕ). frame_of q (again_in w.state cfg (tcb_of v)) ∷ []) (sym same.queue)
           ∙ ap (λ st. frame_of (send_queue v) (again_in st cfg (tcb_of v)) ∷ []) (sym same.state)
           ∙ ap (λ o. o ∷ []) (again_stands cfg v (same.sending s));
+      bytes = record { sent = same.sent; queue = same.queue; pieces = same.pieces; held = same.held ∙ held_by w false _ (lives w v (same.sending s).alive) };
       ended = lives w v (same.sending s).alive;
     }
 
@@ -110,6 +123,7 @@ probed_as cfg now w least s =
     record {
       numbers = refl;
       outputs = ap (λ seq. plain_frame cfg w seq ACK [] ∷ []) (probe_number w.iss w.una least);
+      bytes = record { sent = refl; queue = refl; pieces = refl; held = held_by w false _ (lives w w s.alive) };
       ended = lives w w s.alive;
     }
 
@@ -126,7 +140,7 @@ fired_as : (cfg : Cfg) (now : ℕ) (w : Connection) → HasOpened w → is_due w
 unfolding fired expired
 fired_as cfg now w syn due s =
     rw due (elim (cases_Bool (is_time_wait w.state)) [
-      | inl waits ↦ rw waits (record { numbers = refl; outputs = refl; ended = ends w (ended w) s.alive refl })
+      | inl waits ↦ rw waits (record { numbers = refl; outputs = refl; bytes = bytes_ended w s.alive; ended = ends w (ended w) s.alive refl })
       | inr other ↦ rw (other, flight_test w (flies w s)) (elim (cases_Bool (nat_lt w.una w.nxt)) [
         | inl flies ↦ rw flies (retransmitted_as cfg now w s)
         | inr rests ↦ rw rests
@@ -151,3 +165,6 @@ idle-ended w = by_test (is_closed w.state)
     by_test : (b : Bool) → false ≡ (not b && b)
     by_test true = refl
     by_test false = refl
+
+pub bytes_idle : (w : Connection) → LeavesBytes w w
+bytes_idle w = record { sent = refl; queue = refl; pieces = refl; held = held_by w false _ (idle-ended w) }

@@ -6,7 +6,7 @@ use Rattle.ix_tcpdef.specs.Frames.{plain_frame, data_frame}
 use Rattle.ix_tcpdef.specs.declared.types.Cfg.{Cfg}
 use Rattle.ix_tcpdef.specs.declared.types.Connection.{Connection}
 use Rattle.ix_tcpdef.specs.Stands.{tcb_of, send_queue}
-use Rattle.ix_tcpdef.proofs.NumberLemmas.{goes_on}
+use Rattle.ix_tcpout.proofs.NumberLemmas.{goes_on}
 use Rattle.ix_tcpout.specs.Heads.{bare, bytes}
 use Rattle.ix_tcpout.specs.Given.{frame_of}
 

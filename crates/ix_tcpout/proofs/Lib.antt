@@ -1,6 +1,6 @@
 pub mod FrameLemmas
 pub mod AgainLemmas
-pub mod TimerLemmas
+pub mod NumberLemmas
 pub mod SegmentLemmas
 pub mod PartLemmas
 pub mod ExpiryLemmas

@@ -20,11 +20,11 @@ use Rattle.ix_tcpdef.specs.declared.types.Output.{Output}
 use Rattle.ix_tcpdef.specs.declared.types.Tcb.{Tcb}
 use Rattle.ix_base.specs.declared.segment.TheConstants.{ACK, FIN}
 use Rattle.ix_tcpdef.specs.Stands.{tcb_of, send_queue}
-use Rattle.ix_tcpdef.proofs.NumberLemmas.{counts_ahead, goes_on}
+use Rattle.ix_tcpout.proofs.NumberLemmas.{counts_ahead, goes_on}
 use Rattle.ix_tcpout.specs.declared.outs.OutSeg.{OutSeg}
 use Rattle.ix_tcpout.specs.Heads.{bare, again_in}
 use Rattle.ix_tcpout.specs.Given.{frame_of, start}
-use Rattle.ix_tcpout.specs.Sending.{IsSending, StandsFor}
+use Rattle.ix_tcpout.specs.Sending.{IsSending, IsWorkOf}
 use Rattle.ix_tcpout.specs.Parts.{Work, work, flight, unsent_bytes, sendable_bytes, segments, resend_part, data_part, fin_part, ack_part, arm_part, all_parts}
 use Rattle.ix_tcpout.proofs.AgainLemmas.{Orders, flight_small, again_stands}
 use Rattle.ix_tcpout.proofs.SegmentLemmas.{segments_stand}
@@ -34,10 +34,10 @@ pushed : (queue : List ℕ) (es : List OutSeg) (e : OutSeg) (os : List Output) (
 pushed queue es e os o before here = map-append (frame_of queue) es (e ∷ []) ∙ ap (λ (l : List Output). l ++ frame_of queue e ∷ []) before ∙ ap (λ (f : Output). os ++ f ∷ []) here
 
 -- Work that stands for a step has the connection's numbers, so a part may be looked at there.
-at_connection : (f : Work → Work) (g : Job → Job) (k : Work) (j : Job) → StandsFor k j → StandsFor (f (work (tcb_of j.connection) k.entries)) (g j) → StandsFor (f k) (g j)
+at_connection : (f : Work → Work) (g : Job → Job) (k : Work) (j : Job) → IsWorkOf k j → IsWorkOf (f (work (tcb_of j.connection) k.entries)) (g j) → IsWorkOf (f k) (g j)
 at_connection f g k j stands part =
     let same : work (tcb_of j.connection) k.entries ≡ k = ap (λ (t : Tcb). work t k.entries) (sym stands.numbers) in
-    subst (λ (v : Work). StandsFor (f v) (g j)) same part
+    subst (λ (v : Work). IsWorkOf (f v) (g j)) same part
 
 -- what is in flight, and what was not sent
 pub flight_is : (w : Connection) → Orders w → flight (tcb_of w) ≡ w.nxt - w.una
@@ -81,15 +81,15 @@ flies w s =
     }
 
 -- ## First
-stands-resent_at : (cfg : Cfg) (j : Job) (es : List OutSeg) → IsSending j.connection → map (frame_of (send_queue j.connection)) es ≡ j.outputs → StandsFor (resend_part cfg (work (tcb_of j.connection) es)) (resent cfg j)
+stands-resent_at : (cfg : Cfg) (j : Job) (es : List OutSeg) → IsSending j.connection → map (frame_of (send_queue j.connection)) es ≡ j.outputs → IsWorkOf (resend_part cfg (work (tcb_of j.connection) es)) (resent cfg j)
 unfolding resend_part resent
 stands-resent_at cfg j es s frames = by_test (j.connection.resend && resends j.connection.state)
   where
-    by_test : (b : Bool) → StandsFor (if b then work (record (tcb_of j.connection) { resend = false }) (es ++ again_in j.connection.state cfg (tcb_of j.connection) ∷ []) else work (tcb_of j.connection) es) (if b then gives (on j (record j.connection { resend = false })) (first_unacked cfg j.connection) else j)
+    by_test : (b : Bool) → IsWorkOf (if b then work (record (tcb_of j.connection) { resend = false }) (es ++ again_in j.connection.state cfg (tcb_of j.connection) ∷ []) else work (tcb_of j.connection) es) (if b then gives (on j (record j.connection { resend = false })) (first_unacked cfg j.connection) else j)
     by_test true = record { numbers = refl; frames = pushed (send_queue j.connection) es _ j.outputs _ frames (again_stands cfg j.connection s) }
     by_test false = record { numbers = refl; frames = frames }
 
-stands-resent : (cfg : Cfg) (k : Work) (j : Job) → IsSending j.connection → StandsFor k j → StandsFor (resend_part cfg k) (resent cfg j)
+stands-resent : (cfg : Cfg) (k : Work) (j : Job) → IsSending j.connection → IsWorkOf k j → IsWorkOf (resend_part cfg k) (resent cfg j)
 stands-resent cfg k j s stands = at_connection (resend_part cfg) (resent cfg) k j stands (stands-resent_at cfg j k.entries s stands.frames)
 
 sending-resent : (cfg : Cfg) (j : Job) → IsSending j.connection → IsSending (resent cfg j).connection
@@ -122,11 +122,11 @@ sendable_cut w s least =
     take_min_right : (n : ℕ) (xs : List ℕ) → take (min n (length xs)) xs ≡ take n xs
     take_min_right n xs = take_min n xs
 
-stands-data_at : (cfg : Cfg) (j : Job) (es : List OutSeg) → IsSending j.connection → map (frame_of (send_queue j.connection)) es ≡ j.outputs → StandsFor (data_part cfg (work (tcb_of j.connection) es)) (data_sent cfg j)
+stands-data_at : (cfg : Cfg) (j : Job) (es : List OutSeg) → IsSending j.connection → map (frame_of (send_queue j.connection)) es ≡ j.outputs → IsWorkOf (data_part cfg (work (tcb_of j.connection) es)) (data_sent cfg j)
 unfolding data_part data_sent
 stands-data_at cfg j es s frames = by_test (sends j.connection.state) refl
   where
-    by_test : (b : Bool) → sends j.connection.state ≡ b → StandsFor (if b then work (record (tcb_of j.connection) { nxt = (number j.connection.iss j.connection.nxt + sendable_bytes (tcb_of j.connection)) % 2 ^ 32 }) (es ++ segments cfg (tcb_of j.connection) (sendable_bytes (tcb_of j.connection)) (flight (tcb_of j.connection)) (sendable_bytes (tcb_of j.connection))) else work (tcb_of j.connection) es) (if b then record { connection = record j.connection { nxt = j.connection.nxt + length (sendable j.connection) }; outputs = j.outputs ++ data_frames cfg j.connection (length (sendable j.connection)) j.connection.nxt (sendable j.connection) } else j)
+    by_test : (b : Bool) → sends j.connection.state ≡ b → IsWorkOf (if b then work (record (tcb_of j.connection) { nxt = (number j.connection.iss j.connection.nxt + sendable_bytes (tcb_of j.connection)) % 2 ^ 32 }) (es ++ segments cfg (tcb_of j.connection) (sendable_bytes (tcb_of j.connection)) (flight (tcb_of j.connection)) (sendable_bytes (tcb_of j.connection))) else work (tcb_of j.connection) es) (if b then record { connection = record j.connection { nxt = j.connection.nxt + length (sendable j.connection) }; outputs = j.outputs ++ data_frames cfg j.connection (length (sendable j.connection)) j.connection.nxt (sendable j.connection) } else j)
     by_test false e = record { numbers = refl; frames = frames }
     by_test true e =
         let least : 1 ≤ j.connection.una = s.sender.stream (sends-carries j.connection.state e) in
@@ -146,7 +146,7 @@ stands-data_at cfg j es s frames = by_test (sends j.connection.state) refl
               ∙ ap (λ at. j.outputs ++ data_frames cfg j.connection (length (sendable j.connection)) at (sendable j.connection)) place;
         })
 
-stands-data : (cfg : Cfg) (k : Work) (j : Job) → IsSending j.connection → StandsFor k j → StandsFor (data_part cfg k) (data_sent cfg j)
+stands-data : (cfg : Cfg) (k : Work) (j : Job) → IsSending j.connection → IsWorkOf k j → IsWorkOf (data_part cfg k) (data_sent cfg j)
 stands-data cfg k j s stands = at_connection (data_part cfg) (data_sent cfg) k j stands (stands-data_at cfg j k.entries s stands.frames)
 
 sends-not_syn_sent : (s : State) → sends s ≡ true → is_syn_sent s ≡ true → false ≡ true
@@ -188,11 +188,11 @@ sending-data cfg j window s =
 fin_frames : (cfg : Cfg) (w : Connection) (queue : List ℕ) → frame_of queue (bare cfg (tcb_of w) (number w.iss w.nxt) (FIN + ACK)) ≡ fin_frame cfg w w.nxt
 fin_frames cfg w queue = refl
 
-stands-fin_at : (cfg : Cfg) (j : Job) (es : List OutSeg) → IsSending j.connection → map (frame_of (send_queue j.connection)) es ≡ j.outputs → StandsFor (fin_part cfg (work (tcb_of j.connection) es)) (fin_sent cfg j)
+stands-fin_at : (cfg : Cfg) (j : Job) (es : List OutSeg) → IsSending j.connection → map (frame_of (send_queue j.connection)) es ≡ j.outputs → IsWorkOf (fin_part cfg (work (tcb_of j.connection) es)) (fin_sent cfg j)
 unfolding fin_part fin_sent
 stands-fin_at cfg j es s frames = by_state (sends j.connection.state) refl
   where
-    by_test : (b : Bool) → StandsFor (if b then work (record (tcb_of j.connection) { nxt = (number j.connection.iss j.connection.nxt + 1) % 2 ^ 32; fin_sent = true }) (es ++ bare cfg (tcb_of j.connection) (number j.connection.iss j.connection.nxt) (FIN + ACK) ∷ []) else work (tcb_of j.connection) es) (if b then gives (on j (record j.connection { nxt = j.connection.nxt + 1; fin_sent = true })) (fin_frame cfg j.connection j.connection.nxt) else j)
+    by_test : (b : Bool) → IsWorkOf (if b then work (record (tcb_of j.connection) { nxt = (number j.connection.iss j.connection.nxt + 1) % 2 ^ 32; fin_sent = true }) (es ++ bare cfg (tcb_of j.connection) (number j.connection.iss j.connection.nxt) (FIN + ACK) ∷ []) else work (tcb_of j.connection) es) (if b then gives (on j (record j.connection { nxt = j.connection.nxt + 1; fin_sent = true })) (fin_frame cfg j.connection j.connection.nxt) else j)
     by_test true =
         record {
           numbers = ap (λ n. record (tcb_of j.connection) { nxt = n; fin_sent = true }) (sym (goes_on j.connection.iss j.connection.nxt 1));
@@ -200,11 +200,11 @@ stands-fin_at cfg j es s frames = by_state (sends j.connection.state) refl
         }
     by_test false = record { numbers = refl; frames = frames }
 
-    by_state : (b : Bool) → sends j.connection.state ≡ b → StandsFor (if b && j.connection.fin_wanted && not j.connection.fin_sent && (unsent_bytes (tcb_of j.connection) == 0) then work (record (tcb_of j.connection) { nxt = (number j.connection.iss j.connection.nxt + 1) % 2 ^ 32; fin_sent = true }) (es ++ bare cfg (tcb_of j.connection) (number j.connection.iss j.connection.nxt) (FIN + ACK) ∷ []) else work (tcb_of j.connection) es) (if b && j.connection.fin_wanted && not j.connection.fin_sent && (length (unsent j.connection) == 0) then gives (on j (record j.connection { nxt = j.connection.nxt + 1; fin_sent = true })) (fin_frame cfg j.connection j.connection.nxt) else j)
+    by_state : (b : Bool) → sends j.connection.state ≡ b → IsWorkOf (if b && j.connection.fin_wanted && not j.connection.fin_sent && (unsent_bytes (tcb_of j.connection) == 0) then work (record (tcb_of j.connection) { nxt = (number j.connection.iss j.connection.nxt + 1) % 2 ^ 32; fin_sent = true }) (es ++ bare cfg (tcb_of j.connection) (number j.connection.iss j.connection.nxt) (FIN + ACK) ∷ []) else work (tcb_of j.connection) es) (if b && j.connection.fin_wanted && not j.connection.fin_sent && (length (unsent j.connection) == 0) then gives (on j (record j.connection { nxt = j.connection.nxt + 1; fin_sent = true })) (fin_frame cfg j.connection j.connection.nxt) else j)
     by_state true e = rw (unsent_is j.connection s.sender (s.sender.stream (sends-carries j.connection.state e))) (by_test (true && j.connection.fin_wanted && not j.connection.fin_sent && (length (unsent j.connection) == 0)))
     by_state false e = record { numbers = refl; frames = frames }
 
-stands-fin : (cfg : Cfg) (k : Work) (j : Job) → IsSending j.connection → StandsFor k j → StandsFor (fin_part cfg k) (fin_sent cfg j)
+stands-fin : (cfg : Cfg) (k : Work) (j : Job) → IsSending j.connection → IsWorkOf k j → IsWorkOf (fin_part cfg k) (fin_sent cfg j)
 stands-fin cfg k j s stands = at_connection (fin_part cfg) (fin_sent cfg) k j stands (stands-fin_at cfg j k.entries s stands.frames)
 
 -- what the deadline needs is left as it was, or the FIN is in flight
@@ -223,17 +223,17 @@ flies-fin cfg j s = by_tests (sends j.connection.state) j.connection.fin_wanted 
     by_tests false b c d e w n f = flies j.connection s
 
 -- ## Fourth
-stands-ack_at : (cfg : Cfg) (j : Job) (es : List OutSeg) → map (frame_of (send_queue j.connection)) es ≡ j.outputs → StandsFor (ack_part cfg (work (tcb_of j.connection) es)) (ack_sent cfg j)
+stands-ack_at : (cfg : Cfg) (j : Job) (es : List OutSeg) → map (frame_of (send_queue j.connection)) es ≡ j.outputs → IsWorkOf (ack_part cfg (work (tcb_of j.connection) es)) (ack_sent cfg j)
 unfolding ack_part ack_sent
 stands-ack_at cfg j es frames =
     let same : length es ≡ length j.outputs = sym (length-map es (frame_of (send_queue j.connection))) ∙ ap length frames in
     rw same (by_test (j.connection.ack_owed && (length j.outputs == 0)))
   where
-    by_test : (b : Bool) → StandsFor (if b then work (record (tcb_of j.connection) { ack_owed = false }) (es ++ bare cfg (tcb_of j.connection) (number j.connection.iss j.connection.nxt) ACK ∷ []) else work (record (tcb_of j.connection) { ack_owed = false }) es) (if b then gives (on j (record j.connection { ack_owed = false })) (ack_frame cfg j.connection) else on j (record j.connection { ack_owed = false }))
+    by_test : (b : Bool) → IsWorkOf (if b then work (record (tcb_of j.connection) { ack_owed = false }) (es ++ bare cfg (tcb_of j.connection) (number j.connection.iss j.connection.nxt) ACK ∷ []) else work (record (tcb_of j.connection) { ack_owed = false }) es) (if b then gives (on j (record j.connection { ack_owed = false })) (ack_frame cfg j.connection) else on j (record j.connection { ack_owed = false }))
     by_test true = record { numbers = refl; frames = pushed (send_queue j.connection) es _ j.outputs _ frames refl }
     by_test false = record { numbers = refl; frames = frames }
 
-stands-ack : (cfg : Cfg) (k : Work) (j : Job) → StandsFor k j → StandsFor (ack_part cfg k) (ack_sent cfg j)
+stands-ack : (cfg : Cfg) (k : Work) (j : Job) → IsWorkOf k j → IsWorkOf (ack_part cfg k) (ack_sent cfg j)
 stands-ack cfg k j stands = at_connection (ack_part cfg) (ack_sent cfg) k j stands (stands-ack_at cfg j k.entries stands.frames)
 
 flies-ack : (cfg : Cfg) (j : Job) → IsFlying j.connection → IsFlying (ack_sent cfg j).connection
@@ -278,7 +278,7 @@ same_queue cfg now w = by_test (is_none w.deadline && (nat_lt w.una w.nxt || ((w
     by_test true = refl
     by_test false = refl
 
-stands-arm : (cfg : Cfg) (now : ℕ) (k : Work) (j : Job) → IsFlying j.connection → StandsFor k j → StandsFor (work (arm_part cfg now k.numbers) k.entries) (on j (armed cfg now j.connection))
+stands-arm : (cfg : Cfg) (now : ℕ) (k : Work) (j : Job) → IsFlying j.connection → IsWorkOf k j → IsWorkOf (work (arm_part cfg now k.numbers) k.entries) (on j (armed cfg now j.connection))
 stands-arm cfg now k j f stands =
     record {
       numbers = ap (arm_part cfg now) stands.numbers ∙ stands-armed cfg now j.connection f;
@@ -289,15 +289,15 @@ same_window : (cfg : Cfg) (j : Job) → (resent cfg j).connection.wnd ≡ j.conn
 unfolding resent
 same_window cfg j = cond_both (j.connection.resend && resends j.connection.state) _ _ (λ (r : Job). r.connection.wnd ≡ j.connection.wnd) (λ _. refl) (λ _. refl)
 
-pub stands-all : (cfg : Cfg) (now : ℕ) (w : Connection) → w.wnd ≤ 65535 → IsSending w → StandsFor (all_parts cfg now (work (tcb_of w) [])) (flushed cfg now (start w))
+pub stands-all : (cfg : Cfg) (now : ℕ) (w : Connection) → w.wnd ≤ 65535 → IsSending w → IsWorkOf (all_parts cfg now (work (tcb_of w) [])) (flushed cfg now (start w))
 unfolding all_parts flushed
 stands-all cfg now w window s =
     let j0 : Job = start w in
-    let t0 : StandsFor (work (tcb_of w) []) j0 = record { numbers = refl; frames = refl } in
-    let t1 : StandsFor (resend_part cfg (work (tcb_of w) [])) (resent cfg j0) = stands-resent cfg _ j0 s t0 in
+    let t0 : IsWorkOf (work (tcb_of w) []) j0 = record { numbers = refl; frames = refl } in
+    let t1 : IsWorkOf (resend_part cfg (work (tcb_of w) [])) (resent cfg j0) = stands-resent cfg _ j0 s t0 in
     let s1 : IsSending (resent cfg j0).connection = sending-resent cfg j0 s in
     let window1 : (resent cfg j0).connection.wnd ≤ 65535 = omega (arith, same_window cfg j0, window) in
-    let t2 : StandsFor (data_part cfg (resend_part cfg (work (tcb_of w) []))) (data_sent cfg (resent cfg j0)) = stands-data cfg _ _ s1 t1 in
+    let t2 : IsWorkOf (data_part cfg (resend_part cfg (work (tcb_of w) []))) (data_sent cfg (resent cfg j0)) = stands-data cfg _ _ s1 t1 in
     let s2 : IsSending (data_sent cfg (resent cfg j0)).connection = sending-data cfg _ window1 s1 in
-    let t3 : StandsFor (fin_part cfg (data_part cfg (resend_part cfg (work (tcb_of w) [])))) (fin_sent cfg (data_sent cfg (resent cfg j0))) = stands-fin cfg _ _ s2 t2 in
+    let t3 : IsWorkOf (fin_part cfg (data_part cfg (resend_part cfg (work (tcb_of w) [])))) (fin_sent cfg (data_sent cfg (resent cfg j0))) = stands-fin cfg _ _ s2 t2 in
     stands-arm cfg now _ _ (flies-ack cfg _ (flies-fin cfg _ s2)) (stands-ack cfg _ _ t3)

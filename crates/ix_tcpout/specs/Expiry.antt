@@ -1,7 +1,7 @@
 -- What a connection does when its timer expires, over numbers.
-use Rattle.std.specs.Prelude.{ℕ, ◌+◌, ◌-◌, ◌*◌, ◌/◌, ◌%◌, ◌^◌, true, false, nat_le, ◌&&◌, ◌==◌, not, if◌then◌else◌, [], ◌∷◌, min, max, Option, Some, None}
+use Rattle.std.specs.Prelude.{ℕ, ◌+◌, ◌-◌, ◌%◌, ◌^◌, true, false, nat_le, ◌&&◌, ◌==◌, not, if◌then◌else◌, [], ◌∷◌, min, Option, Some, None}
 use Rattle.ix_tcpdef.specs.Ticks.{later}
-use Rattle.ix_tcpdef.specs.Connection.{is_time_wait}
+use Rattle.ix_tcpdef.specs.Connection.{is_time_wait, threshold_after_loss}
 use Rattle.ix_tcpdef.specs.Flush.{backed_off}
 use Rattle.ix_tcpdef.specs.declared.types.Cfg.{Cfg}
 use Rattle.ix_tcpdef.specs.declared.types.State.{State}
@@ -41,7 +41,7 @@ collapse_in st.SynSent t = t
 collapse_in st.SynReceived t = record t { cwnd = t.mss }
 collapse_in _ t =
     record t {
-      ssthresh = if t.expiries == 0 then max (flight t / 2) (2 * t.mss) else t.ssthresh;
+      ssthresh = if t.expiries == 0 then threshold_after_loss (flight t) t.mss else t.ssthresh;
       cwnd = t.mss;
       dups = 0;
       recovering = false;

@@ -1,6 +1,7 @@
 -- What a call gives, as outputs of the connection.
-use Rattle.std.specs.Prelude.{◌≡◌, ◌≤◌, ℕ, ◌-◌, Bool, ◌&&◌, not, List, [], ◌∷◌, ◌++◌, map, take, drop, Option, Some, None}
+use Rattle.std.specs.Prelude.{◌≡◌, ◌≤◌, ℕ, ◌-◌, Bool, ◌&&◌, not, if◌then◌else◌, List, [], ◌∷◌, ◌++◌, map, take, drop, Option, Some, None}
 use Rattle.ix_tcpdef.specs.Connection.{is_closed}
+use Rattle.ix_tcpdef.specs.Stands.{send_queue}
 use Rattle.ix_tcpdef.specs.declared.types.Connection.{Connection}
 use Rattle.ix_tcpdef.specs.declared.types.Job.{Job}
 use Rattle.ix_tcpdef.specs.declared.types.Output.{Output}
@@ -24,6 +25,13 @@ outputs_of queue outs = map (frame_of queue) outs.entries.items ++ event_of outs
 -- the connection ended in this step
 abbrev pub has_ended : Connection → Connection → Bool
 has_ended old new = not (is_closed old.state) && is_closed new.state
+
+-- What was given to be sent, what came and what is held stay as they were; of a connection that ended nothing is held.
+pub record LeavesBytes (old new : Connection) : Type 0 where
+  pub sent : new.sent ≡ old.sent
+  pub queue : send_queue new ≡ send_queue old
+  pub pieces : new.pieces ≡ old.pieces
+  pub held : new.held ≡ (if has_ended old new then [] else old.held)
 
 -- a step that begins
 abbrev pub start : Connection → Job

@@ -1,7 +1,8 @@
 -- Segments over numbers: heads, and ranges of the send queue.
-use Rattle.std.specs.Prelude.{ℕ, ◌+◌, ◌-◌, ◌%◌, ◌^◌, ◌==◌, min, if◌then◌else◌, None, Some}
+use Rattle.std.specs.Prelude.{ℕ, ◌+◌, ◌%◌, ◌^◌, ◌==◌, min, if◌then◌else◌, None, Some}
 use Rattle.ix_base.specs.declared.segment.SegHead.{SegHead}
 use Rattle.ix_base.specs.Sequence.{number, ahead}
+use Rattle.ix_tcpdef.specs.Connection.{offered_window}
 use Rattle.ix_tcpdef.specs.declared.types.Cfg.{Cfg}
 use Rattle.ix_tcpdef.specs.declared.types.State.{State}
 use Rattle.ix_tcpdef.specs.declared.types.State.TheVariants as st
@@ -13,7 +14,7 @@ use Rattle.ix_tcpout.specs.declared.outs.OutSeg.{OutSeg}
 -- the head of a segment that acknowledges what came
 abbrev pub plain_head : Cfg → Tcb → ℕ → ℕ → ℕ → SegHead
 plain_head cfg t seq flags len =
-    record { flow = t.flow; peer_mac = t.peer_mac; seq = seq; ack = t.rcv_nxt; flags = flags; window = cfg.window - t.unread; mss = None; len = len; at = BEHIND_HEADER }
+    record { flow = t.flow; peer_mac = t.peer_mac; seq = seq; ack = t.rcv_nxt; flags = flags; window = offered_window cfg t.unread; mss = None; len = len; at = BEHIND_HEADER }
 
 -- a segment without a body
 abbrev pub bare : Cfg → Tcb → ℕ → ℕ → OutSeg
@@ -32,7 +33,7 @@ bytes cfg t from n =
 abbrev pub syn : Cfg → Tcb → OutSeg
 syn cfg t =
     record {
-      head = record { flow = t.flow; peer_mac = t.peer_mac; seq = number t.iss 0; ack = 0; flags = SYN; window = cfg.window - t.unread; mss = Some cfg.mss; len = 0; at = BEHIND_SYN };
+      head = record { flow = t.flow; peer_mac = t.peer_mac; seq = number t.iss 0; ack = 0; flags = SYN; window = offered_window cfg t.unread; mss = Some cfg.mss; len = 0; at = BEHIND_SYN };
       from = 0;
       to = 0;
     }
@@ -40,7 +41,7 @@ syn cfg t =
 abbrev pub syn_ack : Cfg → Tcb → OutSeg
 syn_ack cfg t =
     record {
-      head = record { flow = t.flow; peer_mac = t.peer_mac; seq = number t.iss 0; ack = t.rcv_nxt; flags = SYN + ACK; window = cfg.window - t.unread; mss = Some cfg.mss; len = 0; at = BEHIND_SYN };
+      head = record { flow = t.flow; peer_mac = t.peer_mac; seq = number t.iss 0; ack = t.rcv_nxt; flags = SYN + ACK; window = offered_window cfg t.unread; mss = Some cfg.mss; len = 0; at = BEHIND_SYN };
       from = 0;
       to = 0;
     }

@@ -14,6 +14,6 @@ pub record IsSending (w : Connection) : Type 0 where
   pub mss : 64 ≤ w.mss
 
 -- Work over numbers stands for a step under way: the numbers are the connection's, and the segments are its frames.
-pub record StandsFor (k : Work) (j : Job) : Type 0 where
+pub record IsWorkOf (k : Work) (j : Job) : Type 0 where
   pub numbers : k.numbers ≡ tcb_of j.connection
   pub frames : map (frame_of (send_queue j.connection)) k.entries ≡ j.outputs

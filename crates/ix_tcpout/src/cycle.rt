@@ -1,7 +1,6 @@
 // What a connection sends at the end of a cycle.
 ghost use Rattle.std.specs.Prelude.{◌≡◌, ◌≤◌, ◌<◌, ◌+◌, ◌-◌, ◌*◌, ◌^◌, ◌++◌, true, false, [], length};
 ghost use Rattle.arrayvec.specs.ArrayVec.{array_vec_len};
-ghost use Rattle.ix_tcpdef.specs.Flush.{resends as resends_test, sends as sends_test};
 ghost use Rattle.ix_tcpout.specs.Parts.{
   work,
   flight as flight_of,
@@ -16,26 +15,24 @@ ghost use Rattle.ix_tcpout.specs.Parts.{
   all_parts,
 };
 ghost use Rattle.std.specs.List.{All};
-ghost use Rattle.ix_tcpdef.specs.Sound.{IsKept, FitsPeer};
+ghost use Rattle.ix_tcpdef.specs.Sound.{FitsPeer};
 ghost use Rattle.ix_tcpdef.specs.Step.{step};
 ghost use Rattle.ix_tcpdef.specs.declared.types.Connection.{Connection};
 ghost use Rattle.ix_tcpdef.specs.declared.types.Input.TheVariants as inputs;
-ghost use Rattle.ix_tcpdef.specs.Stands.{tcb_of, send_queue};
-ghost use Rattle.ix_tcpout.specs.Given.{outputs_of, has_ended, LiesIn};
+ghost use Rattle.ix_tcpdef.specs.Stands.{send_queue, StandsFor};
+ghost use Rattle.ix_tcpout.specs.Given.{outputs_of, has_ended, LeavesBytes, LiesIn};
 
-use crate::clock::{is_alive, later};
 use crate::heads::{bare, bytes};
 use crate::outs::{Entries, Outs};
 use crate::resend::again;
-use arrayvec::ArrayVec;
-use ix_base::{ACK, FIN};
-use ix_tcpdef::{Cfg, State, Tcb};
+use ix_base::{ACK, FIN, SeqNumber};
+use ix_tcpdef::{Cfg, Tcb, later, numbers_stand_on};
 
 /// How many positions are in flight.
 pub fn flight(tcb: &Tcb) -> u32
     ensures { result ≡ flight_of tcb.now }
 {
-    tcb.nxt.wrapping_sub(tcb.una)
+    SeqNumber(tcb.una).ahead(SeqNumber(tcb.nxt))
 }
 
 /// How many bytes of the send queue were never sent.
@@ -54,24 +51,6 @@ fn sendable_bytes(tcb: &Tcb) -> u32
     usable.min(unsent_bytes(tcb))
 }
 
-fn resends(state: State) -> bool
-    ensures { result ≡ resends_test state }
-{
-    matches!(
-        state,
-        State::Established | State::CloseWait | State::FinWait1 | State::Closing | State::LastAck
-    )
-}
-
-fn sends(state: State) -> bool
-    ensures { result ≡ sends_test state }
-{
-    matches!(
-        state,
-        State::Established | State::CloseWait | State::FinWait1 | State::LastAck
-    )
-}
-
 /// First: the resend that fast retransmit asked for.
 #[tactic(auto, unfolding(crate::specs::Parts::resend_part))]
 fn send_again(cfg: &Cfg, tcb: &mut Tcb, entries: &mut Entries)
@@ -82,7 +61,7 @@ fn send_again(cfg: &Cfg, tcb: &mut Tcb, entries: &mut Entries)
     ensures numbers { tcb.new ≡ (resend_part cfg.now (work tcb.old entries.old.items)).numbers }
     ensures entries { entries.new.items ≡ (resend_part cfg.now (work tcb.old entries.old.items)).entries }
 {
-    if !(tcb.resend && resends(tcb.state)) {
+    if !(tcb.resend && tcb.state.resends()) {
         return;
     }
     entries.push(again(cfg, tcb));
@@ -120,12 +99,12 @@ fn send_data(cfg: &Cfg, tcb: &mut Tcb, entries: &mut Entries)
     ensures numbers { tcb.new ≡ (data_part cfg.now (work tcb.old entries.old.items)).numbers }
     ensures entries { entries.new.items ≡ (data_part cfg.now (work tcb.old entries.old.items)).entries }
 {
-    if !sends(tcb.state) {
+    if !tcb.state.sends() {
         return;
     }
     let n = sendable_bytes(tcb);
     push_bytes(cfg, tcb, flight(tcb), n, entries);
-    tcb.nxt = tcb.nxt.wrapping_add(n);
+    tcb.nxt = SeqNumber(tcb.nxt).advanced(n).0;
 }
 
 /// Third: the FIN, behind all data.
@@ -135,12 +114,12 @@ fn send_fin(cfg: &Cfg, tcb: &mut Tcb, entries: &mut Entries)
     ensures numbers { tcb.new ≡ (fin_part cfg.now (work tcb.old entries.old.items)).numbers }
     ensures entries { entries.new.items ≡ (fin_part cfg.now (work tcb.old entries.old.items)).entries }
 {
-    let due = sends(tcb.state) && tcb.fin_wanted && !tcb.fin_sent && unsent_bytes(tcb) == 0;
+    let due = tcb.state.sends() && tcb.fin_wanted && !tcb.fin_sent && unsent_bytes(tcb) == 0;
     if !due {
         return;
     }
     entries.push(bare(cfg, tcb, tcb.nxt, FIN + ACK));
-    tcb.nxt = tcb.nxt.wrapping_add(1);
+    tcb.nxt = SeqNumber(tcb.nxt).advanced(1).0;
     tcb.fin_sent = true;
 }
 
@@ -185,24 +164,35 @@ fn send_all(cfg: &Cfg, tcb: &mut Tcb, now: u64, entries: &mut Entries)
     arm(cfg, now, tcb);
 }
 
-/// The end of a cycle: a resend, data that both windows let out, the FIN behind it, an acknowledgement that is owed, and the deadline. Of
-/// every connection that the numbers stand for it leaves the numbers after its step, and gives that step's segments as heads and ranges
-/// of the send queue. Its work is linear in these segments.
+/// The end of a cycle, into a list that is lent: a resend, data that both windows let out, the FIN behind it, an acknowledgement that is owed,
+/// and the deadline. Whatever `outs` held, it holds this step's segments afterwards, as heads and ranges of the send queue. Of every
+/// connection that the numbers stand for, they stand for it after its step. The work is linear in what `outs` held and in what it holds then.
+pub fn flush_into(cfg: &Cfg, tcb: &mut Tcb, now: u64, outs: &mut Outs)
+    requires { FitsPeer tcb.old.state tcb.old.mss tcb.old.wnd tcb.old.cwnd tcb.old.ssthresh }
+    ensures stands { (w : Connection) → StandsFor cfg.now tcb.old w → StandsFor cfg.now tcb.new (step cfg.now w inputs.Flush now).connection }
+    ensures outputs { (w : Connection) → StandsFor cfg.now tcb.old w → outputs_of (send_queue w) outs.new ≡ (step cfg.now w inputs.Flush now).outputs }
+    ensures bytes { (w : Connection) → StandsFor cfg.now tcb.old w → LeavesBytes w (step cfg.now w inputs.Flush now).connection }
+    ensures ended { (w : Connection) → StandsFor cfg.now tcb.old w → outs.new.ended ≡ has_ended w (step cfg.now w inputs.Flush now).connection }
+    ensures ranges { All (LiesIn tcb.old.queued) outs.new.entries.items }
+{
+    numbers_stand_on(); // the law by which they stand for the next connection
+    outs.clear();
+    if !tcb.state.is_alive() {
+        return;
+    }
+    send_all(cfg, tcb, now, &mut outs.entries);
+}
+
+/// The end of a cycle, as [`flush_into`] makes it. A new list is written for it, of room for 1,026 segments.
 pub fn flush(cfg: &Cfg, tcb: &mut Tcb, now: u64) -> Outs
     requires { FitsPeer tcb.old.state tcb.old.mss tcb.old.wnd tcb.old.cwnd tcb.old.ssthresh }
-    ensures numbers { (w : Connection) → IsKept cfg.now w → tcb.old ≡ tcb_of w → tcb.new ≡ tcb_of (step cfg.now w inputs.Flush now).connection }
-    ensures outputs { (w : Connection) → IsKept cfg.now w → tcb.old ≡ tcb_of w → outputs_of (send_queue w) result ≡ (step cfg.now w inputs.Flush now).outputs }
+    ensures stands { (w : Connection) → StandsFor cfg.now tcb.old w → StandsFor cfg.now tcb.new (step cfg.now w inputs.Flush now).connection }
+    ensures outputs { (w : Connection) → StandsFor cfg.now tcb.old w → outputs_of (send_queue w) result ≡ (step cfg.now w inputs.Flush now).outputs }
+    ensures bytes { (w : Connection) → StandsFor cfg.now tcb.old w → LeavesBytes w (step cfg.now w inputs.Flush now).connection }
+    ensures ended { (w : Connection) → StandsFor cfg.now tcb.old w → result.ended ≡ has_ended w (step cfg.now w inputs.Flush now).connection }
     ensures ranges { All (LiesIn tcb.old.queued) result.entries.items }
-    ensures ended { (w : Connection) → IsKept cfg.now w → tcb.old ≡ tcb_of w → result.ended ≡ has_ended w (step cfg.now w inputs.Flush now).connection }
 {
-    if !is_alive(tcb.state) {
-        return Outs::nothing();
-    }
-    let mut entries = ArrayVec::new();
-    send_all(cfg, tcb, now, &mut entries);
-    Outs {
-        entries,
-        told: None,
-        ended: false,
-    }
+    let mut outs = Outs::nothing();
+    flush_into(cfg, tcb, now, &mut outs);
+    outs
 }

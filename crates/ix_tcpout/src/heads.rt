@@ -1,6 +1,5 @@
 // Segments over numbers.
-ghost use Rattle.std.specs.Prelude.{◌≡◌, ◌<◌, ◌+◌, ◌-◌, ◌^◌};
-ghost use Rattle.ix_base.specs.Sequence.{number as number_of};
+ghost use Rattle.std.specs.Prelude.{◌≡◌, ◌<◌, ◌+◌, ◌^◌};
 ghost use Rattle.ix_tcpout.specs.Heads.{
   bare as bare_of,
   bytes as bytes_of,
@@ -9,22 +8,8 @@ ghost use Rattle.ix_tcpout.specs.Heads.{
 };
 
 use crate::outs::OutSeg;
-use ix_base::{ACK, PSH, SYN, SegHead};
-use ix_tcpdef::{BEHIND_HEADER, BEHIND_SYN, Cfg, Tcb};
-
-/// The sequence number of a position.
-fn number(start: u32, position: u32) -> u32
-    ensures { result ≡ number_of start position }
-{
-    start.wrapping_add(position)
-}
-
-/// The window that is offered to the peer.
-fn window(cfg: &Cfg, tcb: &Tcb) -> u16
-    ensures { result ≡ cfg.now.window - tcb.now.unread }
-{
-    u32::from(cfg.window).saturating_sub(tcb.unread) as u16
-}
+use ix_base::{ACK, PSH, SYN, SegHead, SeqNumber};
+use ix_tcpdef::{BEHIND_HEADER, BEHIND_SYN, Cfg, Tcb, offered_window};
 
 /// A segment without a body that acknowledges what came.
 pub fn bare(cfg: &Cfg, tcb: &Tcb, seq: u32, flags: u8) -> OutSeg
@@ -36,7 +21,7 @@ pub fn bare(cfg: &Cfg, tcb: &Tcb, seq: u32, flags: u8) -> OutSeg
         seq,
         ack: tcb.rcv_nxt,
         flags,
-        window: window(cfg, tcb),
+        window: offered_window(cfg, tcb.unread),
         mss: None,
         len: 0,
         at: BEHIND_HEADER,
@@ -58,10 +43,10 @@ pub fn bytes(cfg: &Cfg, tcb: &Tcb, from: u32, len: u16) -> OutSeg
     let head = SegHead {
         flow: tcb.flow,
         peer_mac: tcb.peer_mac,
-        seq: tcb.una.wrapping_add(from),
+        seq: SeqNumber(tcb.una).advanced(from).0,
         ack: tcb.rcv_nxt,
         flags,
-        window: window(cfg, tcb),
+        window: offered_window(cfg, tcb.unread),
         mss: None,
         len,
         at: BEHIND_HEADER,
@@ -76,10 +61,10 @@ pub fn syn(cfg: &Cfg, tcb: &Tcb) -> OutSeg
     let head = SegHead {
         flow: tcb.flow,
         peer_mac: tcb.peer_mac,
-        seq: number(tcb.iss, 0),
+        seq: SeqNumber(tcb.iss).at(0).0,
         ack: 0,
         flags: SYN,
-        window: window(cfg, tcb),
+        window: offered_window(cfg, tcb.unread),
         mss: Some(cfg.mss),
         len: 0,
         at: BEHIND_SYN,
@@ -98,10 +83,10 @@ pub fn syn_ack(cfg: &Cfg, tcb: &Tcb) -> OutSeg
     let head = SegHead {
         flow: tcb.flow,
         peer_mac: tcb.peer_mac,
-        seq: number(tcb.iss, 0),
+        seq: SeqNumber(tcb.iss).at(0).0,
         ack: tcb.rcv_nxt,
         flags: SYN + ACK,
-        window: window(cfg, tcb),
+        window: offered_window(cfg, tcb.unread),
         mss: Some(cfg.mss),
         len: 0,
         at: BEHIND_SYN,

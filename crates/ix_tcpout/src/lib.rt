@@ -2,16 +2,15 @@
 //! memory; what is to be sent is told as heads and as ranges of the send queue.
 #![tactic(auto)]
 
-mod clock;
 mod cycle;
 mod heads;
 mod outs;
 mod resend;
 mod timer;
 
-pub use cycle::flush;
+pub use cycle::{flush, flush_into};
 pub use outs::{OutSeg, Outs};
-pub use timer::expire;
+pub use timer::{expire, expire_into};
 
 #[cfg(test)]
 mod tests;

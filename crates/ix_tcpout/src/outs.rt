@@ -62,23 +62,29 @@ impl Outs {
         }
     }
 
-    /// One segment.
-    pub fn one(entry: OutSeg) -> Outs
-        ensures { result ≡ record { entries = record { items = entry ∷ [] }; told = None; ended = false } }
+    /// Whatever there was, there is nothing afterwards.
+    pub fn clear(&mut self)
+        ensures { self.new ≡ record { entries = record { items = [] }; told = None; ended = false } }
     {
-        let mut outs = Outs::nothing();
-        outs.entries.push(entry);
-        outs
+        self.entries.clear();
+        self.told = None;
+        self.ended = false;
     }
 
-    /// The end of the connection, with the event that tells of it.
-    pub fn end(told: Option<Told>) -> Outs
-        ensures { result ≡ record { entries = record { items = [] }; told = told; ended = true } }
+    /// Whatever there was, there is one segment afterwards.
+    pub fn send(&mut self, entry: OutSeg)
+        ensures { self.new ≡ record { entries = record { items = entry ∷ [] }; told = None; ended = false } }
     {
-        Outs {
-            entries: ArrayVec::new(),
-            told,
-            ended: true,
-        }
+        self.clear();
+        self.entries.push(entry);
+    }
+
+    /// Whatever there was, there is the end of the connection afterwards, with the event that tells of it.
+    pub fn end(&mut self, told: Option<Told>)
+        ensures { self.new ≡ record { entries = record { items = [] }; told = told; ended = true } }
+    {
+        self.clear();
+        self.told = told;
+        self.ended = true;
     }
 }

@@ -2,6 +2,7 @@
 ghost use Rattle.std.specs.Prelude.{◌≡◌};
 ghost use Rattle.ix_tcpout.specs.Heads.{first_again as first_again_of, again_in, sent_bytes as sent_bytes_of};
 
+use crate::cycle::flight;
 use crate::heads::{bare, bytes, syn, syn_ack};
 use crate::outs::OutSeg;
 use ix_base::{ACK, FIN};
@@ -11,7 +12,7 @@ use ix_tcpdef::{Cfg, State, Tcb};
 fn sent_bytes(tcb: &Tcb) -> u32
     ensures { result ≡ sent_bytes_of tcb.now }
 {
-    tcb.nxt.wrapping_sub(tcb.una).min(tcb.queued)
+    flight(tcb).min(tcb.queued)
 }
 
 /// The first of so many bytes in one segment, or the FIN where there are none.

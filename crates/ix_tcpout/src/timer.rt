@@ -1,42 +1,24 @@
 // The timer of a connection.
 ghost use Rattle.std.specs.Prelude.{◌≡◌, true};
 ghost use Rattle.std.specs.List.{All};
-ghost use Rattle.ix_tcpdef.specs.Sound.{IsKept};
 ghost use Rattle.ix_tcpdef.specs.Step.{step};
-ghost use Rattle.ix_tcpdef.specs.Flush.{backed_off as backed_off_of, is_due};
+ghost use Rattle.ix_tcpdef.specs.Flush.{is_due};
 ghost use Rattle.ix_tcpout.specs.Expiry.{timeout_in, closed, collapse_in, counted, retransmission, probe as probe_part, fired};
 ghost use Rattle.ix_tcpdef.specs.declared.types.Connection.{Connection};
 ghost use Rattle.ix_tcpdef.specs.declared.types.Input.TheVariants as inputs;
-ghost use Rattle.ix_tcpdef.specs.Stands.{tcb_of, send_queue, HasOpened};
-ghost use Rattle.ix_tcpout.specs.Given.{outputs_of, has_ended, LiesIn};
+ghost use Rattle.ix_tcpdef.specs.Stands.{send_queue, StandsFor};
+ghost use Rattle.ix_tcpout.specs.Given.{outputs_of, has_ended, LeavesBytes, LiesIn};
 
-use crate::clock::{is_alive, later};
 use crate::cycle::flight;
 use crate::heads::bare;
 use crate::outs::Outs;
 use crate::resend::again;
 use arrayvec::ArrayVec;
-use ix_base::{ACK};
-use ix_tcpdef::{Cfg, State, Tcb, Told};
-
-/// No timeout is longer.
-const LONGEST_WAIT: u32 = 60_000;
-
-/// How often a probe's timeout doubles.
-const MOST_PROBE_EXPIRIES: u8 = 8;
-
-/// The timeout after so many expiries in a row: it doubles with each, up to a minute of ticks (RFC 6298, section 5.5).
-fn backed_off(cfg: &Cfg, expiries: u8) -> u32
-    ensures { result ≡ backed_off_of cfg.now expiries }
-{
-    let mut wait = cfg.rto.min(LONGEST_WAIT);
-    let mut left = expiries;
-    while left > 0 {
-        wait = (2 * wait).min(LONGEST_WAIT);
-        left -= 1;
-    }
-    wait
-}
+use ix_base::{ACK, SeqNumber};
+use ix_tcpdef::{
+    Cfg, MOST_PROBE_EXPIRIES, State, Tcb, Told, backed_off, later, numbers_stand_on,
+    threshold_after_loss,
+};
 
 /// What is told where nothing came for too long.
 fn timeout(tcb: &Tcb) -> Option<Told>
@@ -75,7 +57,7 @@ fn collapse(tcb: &mut Tcb)
         State::SynReceived => tcb.cwnd = mss,
         _ => {
             if tcb.expiries == 0 {
-                tcb.ssthresh = (flight(tcb) / 2).max(2 * mss);
+                tcb.ssthresh = threshold_after_loss(flight(tcb), tcb.mss);
             }
             tcb.cwnd = mss;
             tcb.dups = 0;
@@ -95,62 +77,83 @@ fn count(cfg: &Cfg, now: u64, expiries: u8, tcb: &mut Tcb)
 
 /// Sends the first unacknowledged segment again, unless that was done too often.
 #[tactic(auto, unfolding(crate::specs::Expiry::retransmission))]
-fn retransmit(cfg: &Cfg, now: u64, tcb: &mut Tcb) -> Outs
+fn retransmit(cfg: &Cfg, now: u64, tcb: &mut Tcb, outs: &mut Outs)
     ensures numbers { tcb.new ≡ (retransmission cfg.now now tcb.old).numbers }
-    ensures outs { result ≡ (retransmission cfg.now now tcb.old).outs }
+    ensures outs { outs.new ≡ (retransmission cfg.now now tcb.old).outs }
 {
     let retries = cfg.retries;
     let expiries = u16::from(tcb.expiries) + 1;
     if expiries >= u16::from(retries) {
         let told = timeout(tcb);
         close(tcb);
-        return Outs::end(told);
+        outs.end(told);
+        return;
     }
     collapse(tcb);
     count(cfg, now, expiries as u8, tcb);
-    Outs::one(again(cfg, tcb))
+    outs.send(again(cfg, tcb));
 }
 
 /// Probes a closed window (RFC 9293, section 3.8.6.1).
 #[tactic(auto, unfolding(crate::specs::Expiry::probe))]
-fn probe(cfg: &Cfg, now: u64, tcb: &mut Tcb) -> Outs
+fn probe(cfg: &Cfg, now: u64, tcb: &mut Tcb, outs: &mut Outs)
     ensures numbers { tcb.new ≡ (probe_part cfg.now now tcb.old).numbers }
-    ensures outs { result ≡ (probe_part cfg.now now tcb.old).outs }
+    ensures outs { outs.new ≡ (probe_part cfg.now now tcb.old).outs }
 {
-    let entry = bare(cfg, tcb, tcb.una.wrapping_sub(1), ACK);
+    let before = SeqNumber(tcb.una).advanced(u32::MAX); // one before SND.UNA, modulo 2^32
+    let entry = bare(cfg, tcb, before.0, ACK);
     let expiries = tcb.expiries.saturating_add(1).min(MOST_PROBE_EXPIRIES);
     count(cfg, now, expiries, tcb);
-    Outs::one(entry)
+    outs.send(entry);
 }
 
 /// What a due timer does in a state in which the connection lives.
 #[tactic(auto, unfolding(crate::specs::Expiry::fired))]
-fn fire(cfg: &Cfg, now: u64, tcb: &mut Tcb) -> Outs
+fn fire(cfg: &Cfg, now: u64, tcb: &mut Tcb, outs: &mut Outs)
     ensures numbers { tcb.new ≡ (fired cfg.now now tcb.old).numbers }
-    ensures outs { result ≡ (fired cfg.now now tcb.old).outs }
+    ensures outs { outs.new ≡ (fired cfg.now now tcb.old).outs }
 {
-    if matches!(tcb.state, State::TimeWait) {
+    if tcb.state.is_time_wait() {
         close(tcb);
-        return Outs::end(None);
+        outs.end(None);
+        return;
     }
     if tcb.una != tcb.nxt {
-        return retransmit(cfg, now, tcb);
+        retransmit(cfg, now, tcb, outs);
+        return;
     }
-    probe(cfg, now, tcb)
+    probe(cfg, now, tcb, outs);
 }
 
-/// A due timer expires: TIME-WAIT ends, what is in flight is sent again with a doubled timeout or the connection ends, and a closed window
-/// is probed. Of every connection that the numbers stand for it leaves the numbers after its step, and gives that step's segments as heads
-/// and ranges of the send queue, its event, and whether it ended.
+/// A due timer expires, into a list that is lent: TIME-WAIT ends, what is in flight is sent again with a doubled timeout or the connection
+/// ends, and a closed window is probed. Whatever `outs` held, it holds afterwards this step's segment as a head and a range of the send queue,
+/// its event, and whether the connection ended. Of every connection that the numbers stand for, they stand for it after its step.
+pub fn expire_into(cfg: &Cfg, tcb: &mut Tcb, now: u64, outs: &mut Outs)
+    requires { is_due tcb.old.deadline now ≡ true }
+    ensures stands { (w : Connection) → StandsFor cfg.now tcb.old w → StandsFor cfg.now tcb.new (step cfg.now w inputs.Timer now).connection }
+    ensures outputs { (w : Connection) → StandsFor cfg.now tcb.old w → outputs_of (send_queue w) outs.new ≡ (step cfg.now w inputs.Timer now).outputs }
+    ensures bytes { (w : Connection) → StandsFor cfg.now tcb.old w → LeavesBytes w (step cfg.now w inputs.Timer now).connection }
+    ensures ended { (w : Connection) → StandsFor cfg.now tcb.old w → outs.new.ended ≡ has_ended w (step cfg.now w inputs.Timer now).connection }
+    ensures ranges { All (LiesIn tcb.old.queued) outs.new.entries.items }
+{
+    numbers_stand_on(); // the law by which they stand for the next connection
+    if !tcb.state.is_alive() {
+        outs.clear();
+        return;
+    }
+    fire(cfg, now, tcb, outs);
+}
+
+/// A due timer expires, as [`expire_into`] makes it. A new list is written for it, of room for 1,026 segments.
 pub fn expire(cfg: &Cfg, tcb: &mut Tcb, now: u64) -> Outs
     requires { is_due tcb.old.deadline now ≡ true }
-    ensures numbers { (w : Connection) → IsKept cfg.now w → HasOpened w → tcb.old ≡ tcb_of w → tcb.new ≡ tcb_of (step cfg.now w inputs.Timer now).connection }
-    ensures outputs { (w : Connection) → IsKept cfg.now w → HasOpened w → tcb.old ≡ tcb_of w → outputs_of (send_queue w) result ≡ (step cfg.now w inputs.Timer now).outputs }
+    ensures stands { (w : Connection) → StandsFor cfg.now tcb.old w → StandsFor cfg.now tcb.new (step cfg.now w inputs.Timer now).connection }
+    ensures outputs { (w : Connection) → StandsFor cfg.now tcb.old w → outputs_of (send_queue w) result ≡ (step cfg.now w inputs.Timer now).outputs }
+    ensures bytes { (w : Connection) → StandsFor cfg.now tcb.old w → LeavesBytes w (step cfg.now w inputs.Timer now).connection }
+    ensures ended { (w : Connection) → StandsFor cfg.now tcb.old w → result.ended ≡ has_ended w (step cfg.now w inputs.Timer now).connection }
     ensures ranges { All (LiesIn tcb.old.queued) result.entries.items }
-    ensures ended { (w : Connection) → IsKept cfg.now w → HasOpened w → tcb.old ≡ tcb_of w → result.ended ≡ has_ended w (step cfg.now w inputs.Timer now).connection }
 {
-    if !is_alive(tcb.state) {
-        return Outs::nothing();
-    }
-    fire(cfg, now, tcb)
+    let mut outs = Outs::nothing();
+    expire_into(cfg, tcb, now, &mut outs);
+    outs
 }

@@ -1,6 +1,7 @@
 -- What the inputs of a play mean, which status may come, and what was written.
-use Rattle.std.specs.Prelude.{◌≡◌, ◌⊎◌, ℕ, List, [], ◌∷◌, length, take, map, Result, Ok, Err, IsOk, String, string_bytes, Some, nat_lt, if◌then◌else◌, codes}
+use Rattle.std.specs.Prelude.{◌≡◌, ◌⊎◌, Bool, true, false, ℕ, List, [], ◌∷◌, length, take, map, Result, Ok, Err, IsOk, String, string_bytes, Some, nat_lt, if◌then◌else◌, codes}
 use Rattle.std.specs.Io.KnownBytes.{IsAtEnd, append_known}
+use Rattle.ix_base.specs.declared.role.Role.{Role}
 use Rattle.ix_base.specs.declared.role.Role.TheVariants as role
 use Rattle.ix_base.specs.Host.{State}
 use Rattle.ix_pcap.specs.declared.records.Span.{Span}
@@ -146,6 +147,25 @@ IsDoneOrNoMemory Done = Unit {0}
 IsDoneOrNoMemory NoMemory = Unit {0}
 IsDoneOrNoMemory _ = ⊥
 
+-- the roles that a play reads
+abbrev pub is_input : Role → Bool
+is_input role.Conf = true
+is_input role.Capture = true
+is_input role.Script = true
+is_input _ = false
+
+-- the roles that a play writes
+abbrev pub is_output : Role → Bool
+is_output role.Replies = true
+is_output role.Trace = true
+is_output _ = false
+
+-- Only a play's inputs were read, only its outputs were written, and no other role was prepared.
+pub record KeepsOthers (old new : State) : Type 0 where
+  pub left : (r : Role) → is_input r ≡ false → new.left r ≡ old.left r
+  pub written : (r : Role) → is_output r ≡ false → new.written r ≡ old.written r
+  pub attached : (r : Role) → is_input r ≡ false → is_output r ≡ false → new.is_attached r ≡ old.is_attached r
+
 -- No byte was written, and no role that is written was prepared.
 pub record WritesNothing (old new : State) : Type 0 where
   pub written : new.written ≡ old.written
@@ -158,10 +178,20 @@ pub record Appends (old new : State) (replies trace : List ℕ) : Type 0 where
   pub to_replies : new.written role.Replies ≡ append_known (old.written role.Replies) replies
   pub to_trace : new.written role.Trace ≡ append_known (old.written role.Trace) trace
 
--- a front of the replies and nothing of the trace, or all replies and a front of the trace
+-- a front of the replies, and the trace not even prepared
+pub record AppendsReplies (old new : State) (replies : List ℕ) : Type 0 where
+  pub count : ℕ
+  pub writes : Appends old new (take count replies) []
+  pub trace : new.is_attached role.Trace ≡ old.is_attached role.Trace
+
+-- all replies, and a front of the trace
+pub record AppendsBoth (old new : State) (replies trace : List ℕ) : Type 0 where
+  pub count : ℕ
+  pub writes : Appends old new replies (take count trace)
+
+-- The trace was begun only where all replies were written.
 abbrev pub AppendsFront : State → State → List ℕ → List ℕ → Type 0
-AppendsFront old new replies trace =
-    ((n : ℕ) × Appends old new (take n replies) []) ⊎ ((n : ℕ) × Appends old new replies (take n trace))
+AppendsFront old new replies trace = AppendsReplies old new replies ⊎ AppendsBoth old new replies trace
 
 -- a play of these inputs wrote both files whole
 pub record Played (g : Given) (old new : State) : Type 0 where

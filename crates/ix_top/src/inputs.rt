@@ -7,7 +7,7 @@ ghost use Rattle.ix_base.specs.Host.{Rose, Reads};
 ghost use Rattle.ix_conf.specs.Settings.{conf_of, settings_of};
 ghost use Rattle.ix_script.specs.Script.{script_of};
 ghost use Rattle.ix_playdef.specs.Own.{own_frame};
-ghost use Rattle.ix_top.specs.Top.{conf_input, settings_served, capture_input, script_input, entries_read, play_meaning, Given, Refuses, IsStop, Tells, AllRead, WritesNothing};
+ghost use Rattle.ix_top.specs.Top.{conf_input, settings_served, capture_input, script_input, entries_read, play_meaning, Given, Refuses, IsStop, Tells, AllRead, WritesNothing, KeepsOthers};
 
 use crate::reading::{ReadError, load};
 use crate::records::Records;
@@ -85,6 +85,7 @@ pub fn read_inputs<H: Host>(
     ensures failed { IsErrOf result Status.ReadFault → Rose ((H.state host.old).faults Reading) ((H.state host.new).faults Reading) }
     ensures later { (H.state host.old).faults Reading ≤ (H.state host.new).faults Reading }
     ensures nothing { WritesNothing (H.state host.old) (H.state host.new) }
+    ensures others { KeepsOthers (H.state host.old) (H.state host.new) }
     ensures other { (H.state host.new).faults Writing ≡ (H.state host.old).faults Writing }
 {
     let conf = read_settings(alloc, host, conf)?;

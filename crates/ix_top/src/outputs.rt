@@ -5,7 +5,7 @@ ghost use Rattle.ix_base.specs.Host.{Rose};
 ghost use Rattle.ix_pcap.specs.Written.{capture_bytes};
 ghost use Rattle.ix_playdef.specs.Order.{sent_of};
 ghost use Rattle.ix_playdef.specs.Replies.{IsShort};
-ghost use Rattle.ix_top.specs.Top.{AreFiles, Appends, AppendsFront};
+ghost use Rattle.ix_top.specs.Top.{AreFiles, Appends, AppendsFront, KeepsOthers};
 
 use crate::inputs::Inputs;
 use crate::writing::store;
@@ -55,6 +55,7 @@ pub fn deliver<H: Host>(
     ensures failed { OnErr result (Rose ((H.state host.old).faults Writing) ((H.state host.new).faults Writing)) }
     ensures left { (H.state host.new).left ≡ (H.state host.old).left }
     ensures other { (H.state host.new).faults Reading ≡ (H.state host.old).faults Reading }
+    ensures others { KeepsOthers (H.state host.old) (H.state host.new) }
 {
     store(host, Role::Replies, replies, output.replies.as_slice())?;
     store(host, Role::Trace, trace, output.trace.as_slice())

@@ -1,4 +1,4 @@
-// Reads a role in pieces.
+// Reads a role in chunks.
 ghost use Rattle.std.specs.Prelude.{◌≡◌, ◌≤◌, ◌<◌, ◌++◌, length, vec_len, IsTrue, IfOk, IfErr, IsErrOf, List, ℕ};
 ghost use Rattle.std.specs.Io.KnownBytes.{IsAtEnd};
 ghost use Rattle.ix_base.specs.Role.{IsRead};
@@ -16,7 +16,7 @@ pub enum ReadError {
 }
 
 /// How many bytes are asked for at a time.
-const PIECE: usize = 65_536;
+const CHUNK: usize = 65_536;
 
 /// Prepares a role, and reads it until it ends, or until more than the limit was read.
 pub fn load<H: Host>(
@@ -56,43 +56,43 @@ pub fn read_role<H: Host>(
     ensures failed { IsErrOf result ReadError.Failed → Rose ((H.state host.old).faults Reading) ((H.state host.new).faults Reading) }
 {
     let mut bytes = Vec::new(alloc);
-    let Ok(mut piece) = zeros(alloc, PIECE) else {
+    let Ok(mut chunk) = zeros(alloc, CHUNK) else {
         return Err(ReadError::Memory);
     };
     while bytes.len() <= limit {
-        if read_piece(host, role, &mut piece, &mut bytes)? == 0 {
+        if read_chunk(host, role, &mut chunk, &mut bytes)? == 0 {
             break;
         }
     }
     Ok(bytes)
 }
 
-// A piece of this length, which a proof doesn't write out.
+// A chunk of this length, which a proof doesn't write out.
 fn zeros(alloc: Global, len: usize) -> Result<Vec<u8>, AllocError>
     ensures { IfOk result (λ v. vec_len v ≡ len) }
 {
     vec![in alloc; 0u8; len]
 }
 
-// Adds the next piece of a role, and says how long it is.
-fn read_piece<H: Host>(
+// Adds the next chunk of a role, and says how long it is.
+fn read_chunk<H: Host>(
     host: &mut H,
     role: Role,
-    piece: &mut [u8],
+    chunk: &mut [u8],
     bytes: &mut Vec<u8>,
 ) -> Result<usize, ReadError>
     requires kind { IsRead role }
     requires attached { IsTrue ((H.state host.old).is_attached role) }
-    requires room { 0 < length piece.old }
+    requires room { 0 < length chunk.old }
     ensures ok { IfOk result (λ n. (more : List ℕ) × (length more ≡ n)
         × (bytes.new.items ≡ bytes.old.items ++ more) × Reads role more (H.state host.old) (H.state host.new)) }
     ensures end { IfOk result (λ n. n ≡ 0 → IsAtEnd ((H.state host.new).left role)) }
     ensures err { IfErr result (λ _. (more : List ℕ) × Reads role more (H.state host.old) (H.state host.new)) }
     ensures failed { IsErrOf result ReadError.Failed → Rose ((H.state host.old).faults Reading) ((H.state host.new).faults Reading) }
 {
-    match host.read(role, piece) {
+    match host.read(role, chunk) {
         Ok(count) => {
-            if bytes.extend_from_slice(&piece[..count]).is_err() {
+            if bytes.extend_from_slice(&chunk[..count]).is_err() {
                 return Err(ReadError::Memory);
             }
             Ok(count)

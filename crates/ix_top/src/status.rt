@@ -33,12 +33,16 @@ pub enum Status {
     Unbuilt(Unbuilt),
 }
 
-/// Why a configuration is refused: the reader's fault, with its key, or its size.
+/// Why a configuration is refused.
 #[derive(Clone, Copy, Debug, PartialEq, Eq)]
 pub enum ConfRefusal {
+    /// The bytes are no TOML document.
     Text,
+    /// A table has a key that no configuration has.
     Unknown,
+    /// A key that has to be there is not.
     Missing { key: ConfKey },
+    /// A key has a value of another kind, or one that it may not have.
     Range { key: ConfKey },
     /// It has more than 65,536 bytes.
     TooBig,
@@ -47,20 +51,28 @@ pub enum ConfRefusal {
 /// Why a script is refused: its first faulty line, counted from 1, or its size.
 #[derive(Clone, Copy, Debug, PartialEq, Eq)]
 pub enum ScriptRefusal {
+    /// The first line that can't be played, and why.
     At { line: u32, kind: ScriptKind },
     /// It has more than 8,388,608 bytes.
     TooBig,
 }
 
-/// Why a capture is refused: the reader's fault, with its place in bytes, or its size.
+/// Why a capture is refused. `at` counts octets from the begin of the file.
 #[derive(Clone, Copy, Debug, PartialEq, Eq)]
 pub enum CaptureRefusal {
+    /// It ends within its header; `at` is its length.
     CutHeader { at: usize },
+    /// It has the other format of the same family, which begins with a section header block.
     Pcapng,
+    /// It begins with none of the magic numbers, in either byte order.
     BadMagic,
+    /// It has another version than 2.4.
     BadVersion,
+    /// It has another link type than Ethernet.
     BadLink,
+    /// It has more than 262,144 records.
     TooManyRecords,
+    /// The record that begins at `at` is not whole.
     CutRecord { at: usize },
     /// It has more than 67,108,864 bytes.
     TooBig,

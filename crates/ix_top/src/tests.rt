@@ -88,16 +88,29 @@ fn a_handshake_is_played(rt: HostRuntime) -> Result<(), Fail> {
     Ok(())
 }
 
-// The fifth call is the first read of the capture; the thirteenth writes the trace.
+// The calls of a handshake's play in which the host may fail, from one to another, counted from 0: the status, and the two files.
+const FAILS: [(u64, u64, Status, &[u8], &[u8]); 4] = [
+    // each of the three inputs is prepared, read, and read to its end
+    (0, 8, Status::ReadFault, b"", b""),
+    // the replies are prepared and written
+    (9, 10, Status::WriteFault, b"", b""),
+    // the trace is prepared and written
+    (11, 12, Status::WriteFault, REPLIES, b""),
+    // there is no such call
+    (13, 13, Status::Done, REPLIES, TRACE),
+];
+
 #[test]
-fn a_failing_call_has_its_status(rt: HostRuntime) -> Result<(), Fail> {
+fn each_failing_call_has_its_status_and_files(rt: HostRuntime) -> Result<(), Fail> {
     let alloc = rt.alloc();
-    for (number, want, replies) in [(4, Status::ReadFault, 0), (12, Status::WriteFault, 98)] {
-        let mut memory = host(alloc, CONF, CAPTURE, SCRIPT, ROOM, &[number])?;
-        let status = ix(&rt, alloc, words(alloc, &PLAY)?.as_slice(), &mut memory);
-        assert_eq!(rt; status, want, "at {number}");
-        assert_eq!(rt; memory.written(Role::Replies).len(), replies, "at {number}");
-        assert_eq!(rt; memory.written(Role::Trace).len(), 0, "at {number}");
+    for (first, last, want, replies, trace) in FAILS {
+        for number in first..=last {
+            let mut memory = host(alloc, CONF, CAPTURE, SCRIPT, ROOM, &[number])?;
+            let status = ix(&rt, alloc, words(alloc, &PLAY)?.as_slice(), &mut memory);
+            assert!(rt; status == want, "at {number}");
+            assert!(rt; memory.written(Role::Replies) == replies, "at {number}");
+            assert!(rt; memory.written(Role::Trace) == trace, "at {number}");
+        }
     }
     Ok(())
 }

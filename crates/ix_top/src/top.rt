@@ -2,7 +2,7 @@
 ghost use Rattle.std.specs.Prelude.{◌≡◌, ◌≢◌, ◌↔◌, IsOk};
 ghost use Rattle.ix_base.specs.declared.role.Kind.TheVariants.{Reading, Writing};
 ghost use Rattle.ix_base.specs.Host.{Rose};
-ghost use Rattle.ix_top.specs.Top.{Answers, Tells, Given, AllRead, Played, PlayedFront, WritesNothing, play_meaning, IsPlay, IsDoneOrNoMemory};
+ghost use Rattle.ix_top.specs.Top.{Answers, Tells, Given, AllRead, Played, PlayedFront, WritesNothing, KeepsOthers, play_meaning, IsPlay, IsDoneOrNoMemory};
 
 use crate::inputs::read_inputs;
 use crate::outputs::{deliver, perform};
@@ -23,9 +23,12 @@ pub fn ix<R: Wait, H: Host>(_rt: &R, alloc: Global, words: &[String], host: &mut
     ensures read { result ≡ Status.Done → AllRead (H.state host.new) }
     ensures done { result ≡ Status.Done → (g : Given) → Tells (H.state host.old) g → Played g (H.state host.old) (H.state host.new) }
 
-    // What was written is a front of what the play writes.
+    // What was written is a front of what the play writes, and the trace was begun only behind the whole replies.
     ensures front { result ≡ Status.WriteFault → (g : Given) → Tells (H.state host.old) g → PlayedFront g (H.state host.old) (H.state host.new) }
     ensures nothing { result ≢ Status.Done → result ≢ Status.WriteFault → WritesNothing (H.state host.old) (H.state host.new) }
+
+    // Whatever comes, the roles that are not a play's stay as they were.
+    ensures others { KeepsOthers (H.state host.old) (H.state host.new) }
 
     // Without a fault the whole work is done where the inputs can be played.
     ensures complete { IsPlay words.now → (g : Given) → Tells (H.state host.old) g → IsOk (play_meaning g)

@@ -6,7 +6,7 @@ use Rattle.ix_lines.specs.Words.{Fits, line_text, text_of}
 use Rattle.ix_trace.specs.declared.sheet.Sheet.{Sheet}
 use Rattle.ix_trace.specs.Sheet.{sheet_lines, IsReport}
 
--- what a value of the type Report is: it keeps its facts, each number fits its type, and each group is one of 512
+-- what each report keeps: its facts, that each number fits its type, and that each group is one of 512
 pub record IsValue (s : Sheet) : Type 0 where
   pub report : IsReport s
   pub fits : AllByRecursion Fits (sheet_lines s)
@@ -40,7 +40,3 @@ pub record IsFirstBad (bytes : List ℕ) (n : ℕ) : Type 0 where
   pub number : n ≡ length good + 1
   pub begins : IsPrefix good
   pub bad : Stops good rest
-
--- two reports never have one text
-abbrev pub OneText : Type 0
-OneText = (r s : Sheet) → IsValue r → IsValue s → report_text r ≡ report_text s → r ≡ s

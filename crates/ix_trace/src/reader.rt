@@ -3,7 +3,7 @@ ghost use Rattle.std.specs.Prelude.{Ok, IfOk, IfErr, ◌≡◌, ◌<◌, ◌^◌
 ghost use Rattle.ix_lines.specs.Words.{text_of};
 ghost use Rattle.ix_trace.specs.declared.sheet.Sheet.{Sheet};
 ghost use Rattle.ix_trace.specs.Reading.{ended, line_step, texts_read, trace_read, Gives, IsNumber};
-ghost use Rattle.ix_trace.specs.Rule.{IsValue, report_text, OneText};
+ghost use Rattle.ix_trace.specs.Rule.{IsValue, report_text};
 
 use crate::progress::{Progress, step};
 use crate::report::Report;
@@ -71,7 +71,6 @@ fn read_all(alloc: Global, bytes: &[u8]) -> Result<Sheet, TraceFault>
 pub fn read_trace(alloc: Global, bytes: &[u8]) -> Result<Report, TraceFault>
     // What is read is written so.
     ensures found { IfOk result (λ r. bytes.now ≡ report_text r) }
-    ensures value { IfOk result (λ r. IsValue r) }
     // What is written so is read, unless memory runs out.
     ensures only { (s : Sheet) → IsValue s → bytes.now ≡ report_text s → Gives result (Ok s) }
     // The number is that of the first bad line.
@@ -83,7 +82,11 @@ pub fn read_trace(alloc: Global, bytes: &[u8]) -> Result<Report, TraceFault>
     }
 }
 
-/// Two reports never have one text.
-pub fn one_text()
-    ensures { OneText }
-{}
+/// Two reports never have one text. It does nothing: its contract is the law, over all reports.
+pub fn one_text(one: &Report, other: &Report)
+    ensures { report_text one.now ≡ report_text other.now → one.now ≡ other.now }
+{
+    // What a report keeps is known where it is looked at.
+    let _one = one.head();
+    let _other = other.head();
+}

@@ -9,7 +9,7 @@ use Rattle.ix_wire.specs.declared.fault.ScriptKind.{ScriptKind}
 use Rattle.ix_wire.specs.declared.fault.ScriptKind.TheVariants as kinds
 use Rattle.ix_wire.specs.Chain.{◌>>=◌}
 use Rattle.ix_wire.specs.Command.{IsCommand, command_of, number_named, place_named, place_of, places_of, range_named, range_of, version_named}
-use Rattle.ix_wire.specs.Text.{number_of}
+use Rattle.ix_wire.specs.Text.{number_in}
 
 -- a line of `version` may come only where none before it says something
 abbrev pub IsVersionFirst : Bool → Command → Type 0
@@ -67,7 +67,7 @@ command_of-known begun version (verb ∷ a ∷ []) c e =
     (λ c b r. mapped (IsKnown begun version) (number_named a) commands.Time (λ t is. record { range = tt; first = tt }) c r)
     (branch (IsKnown begun version) (bytes_eq verb (codes "tag")) _ _
     (λ c b r. mapped (IsKnown begun version) (place_named version a) commands.Tag
-    (λ place is. record { range = place_in version (number_of a) place is; first = tt }) c r)
+    (λ place is. record { range = place_in version (number_in a) place is; first = tt }) c r)
     (branch (IsKnown begun version) (bytes_eq verb (codes "add")) _ _
     (λ c b r. mapped (IsKnown begun version) (number_named a) commands.Add (λ core is. record { range = tt; first = tt }) c r)
     (branch (IsKnown begun version) (bytes_eq verb (codes "revoke")) _ _
@@ -79,12 +79,12 @@ command_of-known begun version (verb ∷ a ∷ []) c e =
 command_of-known begun version (verb ∷ a ∷ b ∷ []) c e =
     branch (IsKnown begun version) (bytes_eq verb (codes "frames")) _ _
     (λ c t r. mapped (IsKnown begun version) (range_named a b) (λ range. commands.Frames range.0 range.1)
-    (λ range is. record { range = range_in (number_of a) (number_of b) range is; first = tt }) c r)
+    (λ range is. record { range = range_in (number_in a) (number_in b) range is; first = tt }) c r)
     (branch (IsKnown begun version) (bytes_eq verb (codes "each")) _ _
     (λ c t r. mapped (IsKnown begun version) (range_named a b) (λ range. commands.Each range.0 range.1)
-    (λ range is. record { range = range_in (number_of a) (number_of b) range is; first = tt }) c r)
+    (λ range is. record { range = range_in (number_in a) (number_in b) range is; first = tt }) c r)
     (branch (IsKnown begun version) (bytes_eq verb (codes "move")) _ _
-    (λ c t r. moving c (place_named version a) (λ place is. place_in version (number_of a) place is) r)
+    (λ c t r. moving c (place_named version a) (λ place is. place_in version (number_in a) place is) r)
     (λ c r. never (IsKnown begun version) kinds.Word c r))) c e where
       moving : (c : Command) (r : Result ℕ ScriptKind) → ((place : ℕ) → r ≡ Ok place → place < places_of version)
           → (r >>= λ place. number_named b >>= λ to. Ok (commands.Move place to)) ≡ Ok c → IsKnown begun version c

@@ -1,6 +1,6 @@
 -- How many entries there are in a wire list.
-use Rattle.std.proofs.Common.{◌≡◌, ◌<◌, ◌≤◌, ◌+◌, ◌*◌, ◌^◌, ◌++◌, ℕ, List, [], ◌∷◌, length, Bool, true, false, Option, Some, None, refl, subst, arith, length-append, take}
-use Rattle.std.specs.Prelude.{◌==◌, ◌||◌, if◌then◌else◌, nat_lt, not, Result, Ok, Err}
+use Rattle.std.proofs.Common.{◌≡◌, ◌≤◌, ◌+◌, ◌*◌, ◌++◌, ℕ, List, [], ◌∷◌, length, Bool, true, false, refl, subst, arith, length-append, take}
+use Rattle.std.specs.Prelude.{◌==◌, ◌||◌, if◌then◌else◌, nat_lt, not, Result, Ok}
 use Rattle.std.specs.List.{list_all, list_any}
 use Rattle.std.proofs.lemmas.Bool.Decides.{nat_tests}
 use Rattle.ix_base.specs.declared.id.CoreId.{CoreId}
@@ -10,7 +10,6 @@ use Rattle.ix_wire.specs.declared.command.Command.{Command}
 use Rattle.ix_wire.specs.declared.command.Command.TheVariants as commands
 use Rattle.ix_wire.specs.declared.entry.Entry.{Entry}
 use Rattle.ix_wire.specs.declared.entry.Entry.TheVariants as entries
-use Rattle.ix_wire.specs.declared.fault.ScriptFault.TheVariants as faults
 use Rattle.ix_wire.specs.declared.fault.ScriptKind.{ScriptKind}
 use Rattle.ix_wire.specs.declared.fault.ScriptKind.TheVariants as kinds
 use Rattle.ix_wire.specs.declared.progress.Progress.{Progress}
@@ -18,10 +17,9 @@ use Rattle.ix_wire.specs.Chain.{◌>>=◌}
 use Rattle.ix_wire.specs.Command.{command_of, places_of, width_of}
 use Rattle.ix_wire.specs.Progress.{add_run, core_of, each_run, frames_run, is_printable, is_skipped, line_run, move_run, revoke_run, run, tag_run, time_run, with_all_planned, with_plan, with_planned, with_step, with_steps, with_tag, with_tags}
 use Rattle.ix_wire.specs.Records.{records_in}
-use Rattle.ix_wire.specs.Script.{behind, entries_unless, finish, lines_run, opening, wire_of}
-use Rattle.ix_wire.specs.Table.{are_planned_tagged, earliest, groups_from, has_core, has_tagged_on, is_live_core, is_on, is_only_live, is_tagged, is_untagged, with_live}
-use Rattle.ix_wire.specs.Text.{lines_of, words_of}
-use Rattle.ix_wire.specs.Wire.{Written, settled, start, with_all_each, with_control, with_each, with_frame, with_frames, with_move}
+use Rattle.ix_wire.specs.Table.{are_planned_tagged, groups_from, has_core, has_tagged_on, is_live_core, is_on, is_only_live, is_tagged, is_untagged, with_live}
+use Rattle.ix_wire.specs.Text.{words_of}
+use Rattle.ix_wire.specs.Wire.{Written, settled, with_all_each, with_control, with_each, with_frame, with_frames, with_move}
 use Rattle.ix_wire.proofs.Effects.{passed, skipped, unless, unless_not}
 
 -- The limits are kept, and there are no more entries than three for each frame, which are itself, the settle of the pace and its own, two for
@@ -31,7 +29,7 @@ pub record IsFew (others : ℕ) (w : Written) : Type 0 where
   pub moves : w.moves ≤ 16777216
   pub entries : length w.entries ≤ 3 * w.frames + 2 * w.moves + others
 
-wider : (few many : ℕ) (w : Written) → few ≤ many → IsFew few w → IsFew many w
+pub wider : (few many : ℕ) (w : Written) → few ≤ many → IsFew few w → IsFew many w
 wider few many w h is = record { frames = is.frames; moves = is.moves; entries = omega arith }
 
 -- the second has at most so many entries more than the first, and counts as many frames, tags and moves
@@ -62,7 +60,7 @@ pub settled_few : (others : ℕ) (w : Written) → IsFew others w → IsFew (oth
 settled_few others w few = others_more 1 others w (settled w) (settled_wrote w) few
 
 -- a limit that is not reached
-below : (a b : ℕ) → a ≤ b → (a == b) ≡ false → a + 1 ≤ b
+pub below : (a b : ℕ) → a ≤ b → (a == b) ≡ false → a + 1 ≤ b
 below a b h apart = grind (arith, nat_tests)
 
 written_few : (others : ℕ) (v w : Written) → ◌≡◌ {A = Result Written ScriptKind} (Ok v) (Ok w) → IsFew others v → IsFew others w
@@ -230,7 +228,7 @@ run_few own others line (commands.Add core) p q few e =
 run_few own others line (commands.Revoke core) p q few e =
     wider (others + 1) (others + 3) q.wire (omega arith) (revoke_run_few (others + 1) line core p q few e)
 
-line_few : (own : List Bool) (others number : ℕ) (line : List ℕ) (p q : Progress) → IsFew (others + 1) p.wire → line_run own number line p ≡ Ok q
+pub line_few : (own : List Bool) (others number : ℕ) (line : List ℕ) (p q : Progress) → IsFew (others + 1) p.wire → line_run own number line p ≡ Ok q
     → IsFew (others + 3) q.wire
 unfolding line_run
 line_few own others number line p q few e =
@@ -242,37 +240,3 @@ line_few own others number line p q few e =
       carried r =
           let step = passed (command_of p.begun p.version (words_of line)) (λ command. run own number command (record p { begun = true })) q r in
           run_few own others number step.value (record p { begun = true }) q few step.rest
-
--- all lines, and the settle at the end
-finish_count : (p : Progress) (es : List Entry) → IsFew 131073 p.wire → finish p ≡ Ok es → length es < 2 ^ 32
-unfolding finish
-finish_count p es few e = step (earliest p.table.tags) e where
-  step : (o : Option ℕ) → entries_unless o (settled p.wire).entries ≡ Ok es → length es < 2 ^ 32
-  step (Some line) e = absurd (cc)
-  step None e =
-      let is : (settled p.wire).entries ≡ es = cc in
-      let last = settled_few 131073 p.wire few in
-      subst (λ all. length all < 2 ^ 32) is (omega (arith, last.entries, last.frames, last.moves))
-
-lines_count : (own : List Bool) (number : ℕ) (lines : List (List ℕ)) (p : Progress) (es : List Entry) → number ≤ 65536 → IsFew (2 * number + 1) p.wire
-    → lines_run own number p lines ≡ Ok es → length es < 2 ^ 32
-lines_count own number [] p es limit few e = finish_count p es (wider (2 * number + 1) 131073 p.wire (omega arith) few) e
-lines_count own number (line ∷ lines) p es limit few e =
-    step (number == 65536) refl (line_run own (number + 1) line p) (λ q is. line_few own (2 * number) (number + 1) line p q few is)
-    (λ q limit few e. lines_count own (number + 1) lines q es limit few e) e where
-      step : (b : Bool) → (number == 65536) ≡ b → (r : Result Progress ScriptKind) → ((q : Progress) → r ≡ Ok q → IsFew (2 * number + 3) q.wire)
-          → ((q : Progress) → number + 1 ≤ 65536 → IsFew (2 * (number + 1) + 1) q.wire → lines_run own (number + 1) q lines ≡ Ok es → length es < 2 ^ 32)
-          → (if b then Err (faults.At (number + 1) kinds.TooMany) else behind (number + 1) r (λ next. lines_run own (number + 1) next lines)) ≡ Ok es
-          → length es < 2 ^ 32
-      step true at r grown later e = absurd (cc)
-      step false at (Err kind) grown later e = absurd (cc)
-      step false at (Ok q) grown later e =
-          later q (below number 65536 limit at)
-          (wider (2 * number + 3) (2 * (number + 1) + 1) q.wire (omega arith) (grown q refl)) e
-
-pub wire_of-count : (pace cores live : ℕ) (own : List Bool) (bytes : List ℕ) (es : List Entry) → wire_of pace cores live own bytes ≡ Ok es
-    → length es < 2 ^ 32
-unfolding wire_of opening start
-wire_of-count pace cores live own bytes es e =
-    lines_count own 0 (lines_of bytes) (opening pace cores live) es (omega arith)
-    (record { frames = omega arith; moves = omega arith; entries = omega arith }) e

@@ -13,14 +13,14 @@ use Rattle.ix_wire.specs.Wire.{with_move}
 use Rattle.ix_wire.proofs.PutLaws.{put_all, put_plan}
 
 -- the two parts of a chain that passes
-pub record Passed {A B : Type 0} (r : Result A ScriptKind) (f : A → Result B ScriptKind) (y : B) : Type 0 where
+pub record Passed {A B E : Type 0} (r : Result A E) (f : A → Result B E) (y : B) : Type 0 where
   pub value : A
   pub first : r ≡ Ok value
   pub rest : f value ≡ Ok y
 
-pub passed : {A B : Type 0} (r : Result A ScriptKind) (f : A → Result B ScriptKind) (y : B) → (r >>= f) ≡ Ok y → Passed r f y
+pub passed : {A B E : Type 0} (r : Result A E) (f : A → Result B E) (y : B) → (r >>= f) ≡ Ok y → Passed r f y
 passed (Ok x) f y e = record { value = x; first = refl; rest = e }
-passed (Err kind) f y e = absurd (cc)
+passed (Err fault) f y e = absurd (cc)
 
 -- a test that is passed
 pub unless : {A : Type 0} (b : Bool) (kind : ScriptKind) (r : Result A ScriptKind) (y : A) → (if b then Err kind else r) ≡ Ok y → r ≡ Ok y
@@ -75,7 +75,7 @@ with_steps-puts to (group ∷ groups) p q e =
     Puts-then (λ at. slice_set at group to) (put_all to groups) p step.value q (with_step-puts to group p step.value step.first)
     (with_steps-puts to groups step.value q step.rest)
 
-with_planned-puts : (line : ℕ) (to : CoreId) (group : ℕ) (p q : Progress) → with_planned line to group p ≡ Ok q
+pub with_planned-puts : (line : ℕ) (to : CoreId) (group : ℕ) (p q : Progress) → with_planned line to group p ≡ Ok q
     → Puts (λ at. slice_set at group to) p q
 unfolding with_planned
 with_planned-puts line to group p q e =
@@ -83,7 +83,7 @@ with_planned-puts line to group p q e =
     Puts-then (λ at. at) (λ at. slice_set at group to) p step.value q (with_tag-puts line group p step.value step.first)
     (with_step-puts to group step.value q step.rest)
 
-with_all_planned-puts : (line : ℕ) (to : CoreId) (groups : List ℕ) (p q : Progress) → with_all_planned line to groups p ≡ Ok q
+pub with_all_planned-puts : (line : ℕ) (to : CoreId) (groups : List ℕ) (p q : Progress) → with_all_planned line to groups p ≡ Ok q
     → Puts (put_all to groups) p q
 with_all_planned-puts line to [] p q e = Puts-told (put_all to []) p p q e (record { version = refl; begun = refl; at = refl })
 with_all_planned-puts line to (group ∷ groups) p q e =

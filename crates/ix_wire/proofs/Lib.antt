@@ -4,6 +4,7 @@ pub mod CommandRanges
 pub mod CountLaws
 pub mod Effects
 pub mod EntryLaws
+pub mod GroupLaws
 pub mod ProgressLaws
 pub mod PutLaws
 pub mod RecordLaws

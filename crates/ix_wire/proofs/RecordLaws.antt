@@ -1,6 +1,6 @@
 -- The records that make entries, as a part of all of them.
-use Rattle.std.proofs.Common.{◌≡◌, ℕ, suc, ◌+◌, ◌-◌, ◌<◌, ◌≤◌, List, [], ◌∷◌, ◌++◌, length, get_or, take, drop, inl, inr, subst, refl, ap, sym, ◌∙◌, arith, append-nil, Bool, true, false, length-append}
-use Rattle.std.specs.Prelude.{All, slice_index}
+use Rattle.std.proofs.Common.{◌≡◌, ℕ, zero, suc, Some, ◌+◌, ◌-◌, ◌<◌, ◌≤◌, List, [], ◌∷◌, ◌++◌, length, get_or, take, drop, inl, inr, subst, refl, ap, sym, ◌∙◌, arith, append-nil, Bool, true, false, length-append}
+use Rattle.std.specs.Prelude.{All, slice_get, slice_index}
 use Rattle.std.proofs.Math.Seq.{drop-append_seam, take-add, take-append_seam, take-suc}
 use Rattle.std.proofs.Math.ListN.{get_or-append}
 use Rattle.std.proofs.Math.Seq.{get_or-append_seam}
@@ -125,3 +125,33 @@ counted own others before i m all is count each n h =
     ]
 
 pub ruleset record_steps = (others_from-none, others_from-own, others_from-other)
+
+-- the records that make entries are not the local side's own
+get_take : (n : ℕ) (xs : List Bool) (i : ℕ) → i < length (take n xs) → slice_get (take n xs) i ≡ slice_get xs i
+get_take zero xs i h = absurd (omega arith)
+get_take (suc n) [] i h = refl
+get_take (suc n) (x ∷ xs) zero h = refl
+get_take (suc n) (x ∷ xs) (suc i) h = get_take n xs i (omega arith)
+
+get_drop : (n : ℕ) (xs : List Bool) (i : ℕ) → slice_get (drop n xs) i ≡ slice_get xs (n + i)
+get_drop zero xs i = ap (slice_get xs) (let e : i ≡ 0 + i = omega arith in e)
+get_drop (suc n) [] i = refl
+get_drop (suc n) (x ∷ xs) i = get_drop n xs i ∙ ap (slice_get (x ∷ xs)) (let e : suc (n + i) ≡ suc n + i = omega arith in e)
+
+others_from-others : (own : List Bool) (rec : ℕ) (xs : List Bool) → ((i : ℕ) → i < length xs → slice_get xs i ≡ slice_get own (rec + i))
+    → All (λ r. slice_get own r ≡ Some false) (others_from rec xs)
+unfolding others_from
+others_from-others own rec [] same = All-nil _
+others_from-others own rec (true ∷ xs) same =
+    others_from-others own (rec + 1) xs
+    (λ i h. same (suc i) (omega arith) ∙ ap (slice_get own) (let e : rec + suc i ≡ rec + 1 + i = omega arith in e))
+others_from-others own rec (false ∷ xs) same =
+    All-cons (λ r. slice_get own r ≡ Some false) rec (others_from (rec + 1) xs)
+    (ap (slice_get own) (let e : rec ≡ rec + 0 = omega arith in e) ∙ sym (same zero (omega arith)))
+    (others_from-others own (rec + 1) xs
+    (λ i h. same (suc i) (omega arith) ∙ ap (slice_get own) (let e : rec + suc i ≡ rec + 1 + i = omega arith in e)))
+
+pub records_in-others : (own : List Bool) (from to : ℕ) → All (λ r. slice_get own r ≡ Some false) (records_in own from to)
+unfolding records_in
+records_in-others own from to =
+    others_from-others own from (take (to + 1 - from) (drop from own)) (λ i h. get_take (to + 1 - from) (drop from own) i h ∙ get_drop from own i)

@@ -5,9 +5,9 @@ use Rattle.ix_wire.specs.declared.fault.Refused.{Refused}
 use Rattle.ix_wire.specs.declared.fault.Refused.TheVariants as refusals
 
 infixl 10 ◌>>=◌
-abbrev pub ◌>>=◌ : {A B : Type 0} → Result A ScriptKind → (A → Result B ScriptKind) → Result B ScriptKind
+abbrev pub ◌>>=◌ : {A B E : Type 0} → Result A E → (A → Result B E) → Result B E
 (Ok x) >>= f = f x
-(Err kind) >>= f = Err kind
+(Err fault) >>= f = Err fault
 
 -- what a function that was refused says of the meaning: the same kind, or nothing where memory ran out
 abbrev pub Fails : {S : Type 0} → Refused → Result S ScriptKind → Type 0

@@ -8,7 +8,7 @@ use Rattle.ix_wire.specs.declared.command.Version.TheVariants.{One, Two}
 use Rattle.ix_wire.specs.declared.fault.ScriptKind.{ScriptKind}
 use Rattle.ix_wire.specs.declared.fault.ScriptKind.TheVariants as kinds
 use Rattle.ix_wire.specs.Chain.{◌>>=◌}
-use Rattle.ix_wire.specs.Text.{words_of, number_of}
+use Rattle.ix_wire.specs.Text.{words_of, number_in}
 
 -- how many flow groups a number names
 abbrev pub width_of : Version → ℕ
@@ -30,10 +30,10 @@ place_of version None = Err kinds.Number
 place_of version (Some place) = if nat_lt place (places_of version) then Ok place else Err kinds.Number
 
 abbrev pub place_named : Version → List ℕ → Result ℕ ScriptKind
-place_named version word = place_of version (number_of word)
+place_named version word = place_of version (number_in word)
 
 abbrev pub number_named : List ℕ → Result ℕ ScriptKind
-number_named word = ok_or (number_of word) kinds.Number
+number_named word = ok_or (number_in word) kinds.Number
 
 abbrev pub version_of : ℕ → Result Version ScriptKind
 version_of number = if number == 1 then Ok One else if number == 2 then Ok Two else Err kinds.Number
@@ -46,7 +46,7 @@ range_of (Some from) (Some to) = if nat_lt to from then Err kinds.Number else Ok
 range_of _ _ = Err kinds.Number
 
 abbrev pub range_named : List ℕ → List ℕ → Result (ℕ × ℕ) ScriptKind
-range_named from to = range_of (number_of from) (number_of to)
+range_named from to = range_of (number_in from) (number_in to)
 
 -- The command of these words in a script of a version. A line of `version` is known only where no line before it says something.
 unfoldable pub command_of : Bool → Version → List (List ℕ) → Result Command ScriptKind

@@ -2,6 +2,7 @@ pub mod Chain
 pub mod Classes
 pub mod Command
 pub mod Entries
+pub mod Kept
 pub mod Kind
 pub mod Progress
 pub mod Records

@@ -7,6 +7,7 @@ use Rattle.ix_wire.specs.declared.fault.ScriptFault.TheVariants as faults
 use Rattle.ix_wire.specs.declared.fault.ScriptKind.{ScriptKind}
 use Rattle.ix_wire.specs.declared.fault.ScriptKind.TheVariants as kinds
 use Rattle.ix_wire.specs.declared.progress.Progress.{Progress}
+use Rattle.ix_wire.specs.Chain.{◌>>=◌}
 use Rattle.ix_wire.specs.Progress.{line_run}
 use Rattle.ix_wire.specs.Table.{earliest, opening_table}
 use Rattle.ix_wire.specs.Text.{lines_of}
@@ -26,24 +27,24 @@ unfoldable pub finish : Progress → Result (List Entry) ScriptFault
 finish p = entries_unless (earliest p.table.tags) (settled p.wire).entries
 
 -- goes on behind a line, or names it
-abbrev pub behind : ℕ → Result Progress ScriptKind → (Progress → Result (List Entry) ScriptFault) → Result (List Entry) ScriptFault
+abbrev pub behind : ℕ → Result Progress ScriptKind → (Progress → Result Progress ScriptFault) → Result Progress ScriptFault
 behind number (Ok p) rest = rest p
 behind number (Err kind) rest = Err (faults.At number kind)
 
--- the entries of these lines and of what came before them, which had so many lines
-abbrev pub lines_run : List Bool → ℕ → Progress → List (List ℕ) → Result (List Entry) ScriptFault
-lines_run own number p [] = finish p
-lines_run own number p (line ∷ lines) =
-    if number == 65536 then Err (faults.At (number + 1) kinds.TooMany)
-    else behind (number + 1) (line_run own (number + 1) line p) (λ next. lines_run own (number + 1) next lines)
+-- what these lines come to, of a script that has so many lines before them and may have so many in all; or the first faulty line
+abbrev pub lines_run : ℕ → List Bool → ℕ → Progress → List (List ℕ) → Result Progress ScriptFault
+lines_run limit own number p [] = Ok p
+lines_run limit own number p (line ∷ lines) =
+    if number == limit then Err (faults.At (number + 1) kinds.TooMany)
+    else behind (number + 1) (line_run own (number + 1) line p) (λ next. lines_run limit own (number + 1) next lines)
 
 -- the wire list of a script for a play with this pace, on so many cores, so many of them live at the start, over records of which some are
 -- the local side's own
 unfoldable pub wire_of : ℕ → ℕ → ℕ → List Bool → List ℕ → Result (List Entry) ScriptFault
-wire_of pace cores live own bytes = lines_run own 0 (opening pace cores live) (lines_of bytes)
+wire_of pace cores live own bytes = lines_run 65536 own 0 (opening pace cores live) (lines_of bytes) >>= finish
 
--- a reader answered the meaning, where `view` is the list of entries in its answer, or that memory ran out
-abbrev pub Gives : {A : Type 0} → (A → List Entry) → Result A ScriptFault → Result (List Entry) ScriptFault → Type 0
+-- a reader answered the meaning, where `view` is what a contract sees in its answer, or that memory ran out
+abbrev pub Gives : {A B : Type 0} → (A → B) → Result A ScriptFault → Result B ScriptFault → Type 0
 Gives view (Ok answer) meaning = meaning ≡ Ok (view answer)
 Gives view (Err (faults.At line kind)) meaning = meaning ≡ Err (faults.At line kind)
 Gives view (Err faults.NoMemory) meaning = Unit {0}

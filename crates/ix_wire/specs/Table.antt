@@ -3,6 +3,7 @@ use Rattle.std.specs.Prelude.{ℕ, zero, suc, ◌+◌, ◌%◌, ◌==◌, ◌&&�
 use Rattle.std.specs.List.{list_any}
 use Rattle.ix_base.specs.declared.id.CoreId.{CoreId}
 use Rattle.ix_cp.specs.declared.plan.PlanMove.{PlanMove}
+use Rattle.ix_cp.specs.Plan.{is_core}
 
 -- the core of each flow group, the line of each one's tag, which of the eight cores are live, and how many cores there are
 pub record Standing : Type 0 where
@@ -43,10 +44,6 @@ or_false (Some b) = b
 -- there is this core, and it is live
 abbrev pub is_live_core : ℕ → Standing → Bool
 is_live_core core t = has_core core t && or_false (slice_get t.live core)
-
-abbrev pub is_core : ℕ → Option CoreId → Bool
-is_core core None = false
-is_core core (Some owner) = owner.0 == core
 
 abbrev pub is_on : Standing → ℕ → ℕ → Bool
 is_on t core group = is_core core (slice_get t.at group)

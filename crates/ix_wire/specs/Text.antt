@@ -1,5 +1,6 @@
 -- Lines, words and numbers of a script.
-use Rattle.std.specs.Prelude.{ℕ, ◌<◌, ◌≢◌, ◌+◌, ◌*◌, ◌-◌, ◌^◌, List, [], ◌∷◌, Bool, ◌&&◌, not, if◌then◌else◌, Option, Some, None, nat_lt, ◌==◌, slice_index, length}
+use Rattle.std.specs.Prelude.{ℕ, ◌<◌, ◌≢◌, List, [], ◌∷◌, ◌&&◌, if◌then◌else◌, Option, ◌==◌, slice_index}
+use Rattle.ix_words.specs.Numbers.{number_of}
 
 -- no line feed stands before a place
 abbrev pub NoFeed : List ℕ → ℕ → Type 0
@@ -23,15 +24,6 @@ abbrev pub words_of : List ℕ → List (List ℕ)
 words_of [] = [] ∷ []
 words_of (b ∷ bs) = if b == 32 then [] ∷ words_of bs else push_front b (words_of bs)
 
-abbrev pub is_digit : ℕ → Bool
-is_digit b = not (nat_lt b 48) && nat_lt b 58
-
--- the number that these digits go on to, from what came before them
-abbrev pub digits_from : ℕ → List ℕ → Option ℕ
-digits_from n [] = Some n
-digits_from n (d ∷ ds) = if is_digit d && nat_lt (10 * n + (d - 48)) (2 ^ 32) then digits_from (10 * n + (d - 48)) ds else None
-
--- a decimal number below 2 ^ 32, with no leading zero
-abbrev pub number_of : List ℕ → Option ℕ
-number_of [] = None
-number_of (d ∷ ds) = if d == 48 && nat_lt 0 (length ds) then None else digits_from 0 (d ∷ ds)
+-- a number of a script, which has 32 bits
+abbrev pub number_in : List ℕ → Option ℕ
+number_in word = number_of 4294967295 word

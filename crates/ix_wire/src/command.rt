@@ -4,7 +4,7 @@ ghost use Rattle.ix_wire.specs.Text.{words_of};
 ghost use Rattle.ix_wire.specs.Command.{IsCommand, command_of, number_named, place_named, places_of, range_named, version_named, width_of, words_after};
 
 use crate::fault::ScriptKind;
-use crate::text::number_of;
+use crate::text::number_in;
 
 /// What a number of a `tag` or a `move` line names: in version 1 a class of four flow groups, in version 2 one flow group.
 #[derive(Clone, Copy, Debug, PartialEq, Eq)]
@@ -66,7 +66,7 @@ fn place_named(version: Version, word: &[u8]) -> Result<u16, ScriptKind>
     ensures place { result ≡ place_named version word.now }
     ensures within { IfOk result (λ place. place < places_of version) }
 {
-    match number_of(word) {
+    match number_in(word) {
         Some(place) if (place as usize) < version.places() => Ok(place as u16),
         _ => Err(ScriptKind::Number),
     }
@@ -75,7 +75,7 @@ fn place_named(version: Version, word: &[u8]) -> Result<u16, ScriptKind>
 fn number_named(word: &[u8]) -> Result<u32, ScriptKind>
     ensures { result ≡ number_named word.now }
 {
-    number_of(word).ok_or(ScriptKind::Number)
+    number_in(word).ok_or(ScriptKind::Number)
 }
 
 fn version_named(word: &[u8]) -> Result<Version, ScriptKind>
@@ -95,7 +95,7 @@ fn range_named(from: &[u8], to: &[u8]) -> Result<(u32, u32), ScriptKind>
     ensures range { result ≡ range_named from.now to.now }
     ensures order { IfOk result (λ range. range.0 ≤ range.1) }
 {
-    match (number_of(from), number_of(to)) {
+    match (number_in(from), number_in(to)) {
         (Some(from), Some(to)) if from <= to => Ok((from, to)),
         _ => Err(ScriptKind::Number),
     }

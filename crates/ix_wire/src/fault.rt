@@ -74,6 +74,7 @@ pub enum ScriptFault {
     /// A line is refused; lines are counted from 1.
     #[error("line {line} of the script: {kind}")]
     At { line: u32, kind: ScriptKind },
+    /// Memory ran out.
     #[error("out of memory")]
     NoMemory,
 }
@@ -81,6 +82,8 @@ pub enum ScriptFault {
 /// Why a line was not carried out.
 #[derive(Clone, Copy, Debug, PartialEq, Eq)]
 pub enum Refused {
+    /// The line has a fault of this kind.
     Kind(ScriptKind),
+    /// Memory ran out.
     NoMemory,
 }

@@ -15,4 +15,4 @@ mod wire;
 
 pub use entry::Entry;
 pub use fault::{ScriptFault, ScriptKind};
-pub use reading::read_wire;
+pub use reading::{read_wire, scripts_keep_rules};

@@ -1,6 +1,11 @@
 // Lines, words and numbers.
 ghost use Rattle.std.specs.Prelude.{◌≡◌, ◌<◌, ◌∷◌, length, slice_index, IfSome, IfNone};
-ghost use Rattle.ix_wire.specs.Text.{NoFeed, lines_of, words_of, number_of, digits_from};
+ghost use Rattle.ix_wire.specs.Text.{NoFeed, lines_of, number_in};
+
+use ix_words::number_of;
+
+/// The highest number of a script.
+const HIGHEST: u64 = 0xffff_ffff;
 
 /// The place of the first line feed.
 fn find_feed(bytes: &[u8]) -> Option<usize>
@@ -34,25 +39,12 @@ pub fn split_line(bytes: &[u8]) -> (&[u8], &[u8])
     (&bytes[..i], &bytes[i + 1..])
 }
 
-/// The number that a word is.
-pub fn number_of(word: &[u8]) -> Option<u32>
-    ensures { result ≡ number_of word.now }
+/// The number that a word is, if it is one of 32 bits.
+pub fn number_in(word: &[u8]) -> Option<u32>
+    ensures { result ≡ number_in word.now }
 {
-    if word.is_empty() {
-        return None;
+    match number_of(word, HIGHEST) {
+        Some(number) => Some(number as u32),
+        None => None,
     }
-    if word[0] == b'0' && word.len() > 1 {
-        return None;
-    }
-    let mut number: u64 = 0;
-    for digit in word {
-        if *digit < b'0' || *digit > b'9' {
-            return None;
-        }
-        number = 10 * number + (*digit - b'0') as u64;
-        if number > 0xffff_ffff {
-            return None;
-        }
-    }
-    Some(number as u32)
 }

@@ -9,15 +9,15 @@ use Rattle.std.proofs.lemmas.Option.{same_Some}
 use Rattle.std.proofs.lemmas.Slice.Eq.{bytes_eq-Decides}
 use Rattle.ix_words.specs.Parts.{push_front, parts, join, lacks, all_lack}
 use Rattle.ix_words.specs.Numbers.{number_of, hex, glyph, hex8}
-use Rattle.ix_words.specs.Fields.{◌>>=◌, behind_word, with_rest, field_of, at_end, dotted, four_of, dotted_of, place, two_of, place_of}
+use Rattle.ix_words.specs.Fields.{◌>>=◌, behind_word, with_rest, field_of, named_field, ended, at_end, dotted, four_of, dotted_of, place, two_of, place_of}
 use Rattle.ix_words.proofs.PartLaws.{join-parts, parts-join, is_plain, plain-join}
 use Rattle.ix_words.proofs.NumberLaws.{number_of-takes, number_of-again, lacks-decimal, plain-decimal}
 
--- a mark has a part behind it
-pub no_end : {A : Type 0} (mark : ℕ) (bs : List ℕ) (x : A) → at_end (parts mark bs) x ≡ None
-no_end mark [] x = refl
-no_end mark (b ∷ bs) x = some (b == mark) (parts mark bs) where
-  some : (t : Bool) (ps : List (List ℕ)) → at_end (if t then [] ∷ ps else push_front b ps) x ≡ None
+-- a text has a part
+pub none_ended : (mark : ℕ) (bs : List ℕ) → ended (parts mark bs) ≡ None
+none_ended mark [] = refl
+none_ended mark (b ∷ bs) = some (b == mark) (parts mark bs) where
+  some : (t : Bool) (ps : List (List ℕ)) → ended (if t then [] ∷ ps else push_front b ps) ≡ None
   some true ps = refl
   some false [] = refl
   some false (p ∷ ps) = refl
@@ -43,6 +43,23 @@ pub number_then : {A P : Type 0} (high : ℕ) (ws : List (List ℕ)) (f : ℕ ×
     → ((n : ℕ) (rest : List (List ℕ)) → ws ≡ decimal n ∷ rest → n ≤ high → f (n, rest) ≡ Some x → P) → P
 number_then high ws f x small e go = field_then (number_of high) ws f x e (λ n w rest is r g.
     let t = number_of-takes high n w small r in go n rest (is ∙ ap (λ v. v ∷ rest) t.0) t.1 g)
+
+-- a word behind its name
+pub named_then : {A B P : Type 0} (name : List ℕ) (read : List ℕ → Option B) (ws : List (List ℕ)) (f : B × List (List ℕ) → Option A) (x : A)
+    → named_field name read ws >>= f ≡ Some x
+    → ((b : B) (w : List ℕ) (rest : List (List ℕ)) → ws ≡ name ∷ w ∷ rest → read w ≡ Some b → f (b, rest) ≡ Some x → P) → P
+named_then {P = P} name read ws f x e go = by_word (behind_word name ws) refl e where
+  by_word : (o : Option (List (List ℕ))) → behind_word name ws ≡ o → (o >>= field_of read) >>= f ≡ Some x → P
+  by_word None p g = absurd (cc)
+  by_word (Some behind) p g =
+      word_then name ws (λ r. Some r) behind (ap (λ o. o >>= (λ r. Some r)) p) (λ rest is same.
+      field_then read behind f x g (λ b w more at r h. go b w more (is ∙ ap (λ r. name ∷ r) (same_Some rest behind same ∙ at)) r h))
+
+pub named_number_then : {A P : Type 0} (name : List ℕ) (high : ℕ) (ws : List (List ℕ)) (f : ℕ × List (List ℕ) → Option A) (x : A) → high < 2 ^ 64
+    → named_field name (number_of high) ws >>= f ≡ Some x
+    → ((n : ℕ) (rest : List (List ℕ)) → ws ≡ name ∷ decimal n ∷ rest → n ≤ high → f (n, rest) ≡ Some x → P) → P
+named_number_then name high ws f x small e go = named_then name (number_of high) ws f x e (λ n w rest is r g.
+    let t = number_of-takes high n w small r in go n rest (is ∙ ap (λ v. name ∷ v ∷ rest) t.0) t.1 g)
 
 pub end_then : {A P : Type 0} (ws : List (List ℕ)) (y x : A) → at_end ws y ≡ Some x → (ws ≡ [] → y ≡ x → P) → P
 end_then [] y x e go = go refl (same_Some y x e)

@@ -1,9 +1,8 @@
 -- The words of a line, one after the other.
-use Rattle.std.specs.Borrow.{Bor}
 use Rattle.std.specs.Prelude.{ℕ, ◌+◌, ◌*◌, ◌/◌, ◌%◌, List, [], ◌∷◌, Option, Some, None, if◌then◌else◌}
 use Rattle.std.specs.Str.{bytes_eq}
 use Rattle.std.specs.Fmt.{decimal}
-use Rattle.ix_words.specs.Parts.{parts, parts_after, join}
+use Rattle.ix_words.specs.Parts.{parts, join}
 use Rattle.ix_words.specs.Numbers.{number_of}
 
 infixl 10 ◌>>=◌
@@ -25,10 +24,18 @@ abbrev pub field_of : {A : Type 0} → (List ℕ → Option A) → List (List �
 field_of read [] = None
 field_of read (w ∷ ws) = with_rest ws (read w)
 
+-- what a word means behind its name, and the words behind it
+abbrev pub named_field : {A : Type 0} → List ℕ → (List ℕ → Option A) → List (List ℕ) → Option (A × List (List ℕ))
+named_field name read ws = behind_word name ws >>= field_of read
+
+-- no word is left
+abbrev pub ended : List (List ℕ) → Option (Unit {0})
+ended [] = Some tt
+ended (w ∷ ws) = None
+
 -- a value, where no word is left
 abbrev pub at_end : {A : Type 0} → List (List ℕ) → A → Option A
-at_end [] x = Some x
-at_end (w ∷ ws) x = None
+at_end ws x = ended ws >>= (λ _. Some x)
 
 -- an address: four numbers with points between
 unfoldable pub dotted : ℕ → List ℕ
@@ -57,12 +64,3 @@ two_of high low ws = do
 
 abbrev pub place_of : ℕ → ℕ → List ℕ → Option (ℕ × ℕ)
 place_of high low w = two_of high low (parts 46 w)
-
--- a number that was read, and the words that are left, as the code has them
-abbrev pub left : {A : Type 0} → ℕ → Option (A × Option (Bor (List ℕ))) → Option (A × List (List ℕ))
-left mark None = None
-left mark (Some x) = Some (x.0, parts_after mark x.1)
-
-abbrev pub left_words : Option (Option (Bor (List ℕ))) → Option (List (List ℕ))
-left_words None = None
-left_words (Some x) = Some (parts_after 32 x)

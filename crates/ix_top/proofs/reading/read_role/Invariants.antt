@@ -5,7 +5,7 @@ use Rattle.ix_top.proofs.reading.read_role.Given as goal
 abbrev pub invariant-loop-role : goal.invariant-loop-role
 invariant-loop-role g l = record {
   read : Reads l.role l.bytes.items (g.H.Host.state l.fn.host) (g.H.Host.state l.host);
-  piece : length l.piece.items ≡ 65536;
+  chunk : length l.chunk.items ≡ 65536;
 }
 
 abbrev pub decreases-loop-role : goal.decreases-loop-role

@@ -3,13 +3,10 @@ use Rattle.ix_trace.proofs.ReadTrace.{value, found, only, line}
 use Rattle.ix_trace.proofs.reader.read_trace.Goals as goal
 
 pub new-requires : goal.new-requires
-new-requires c = let v = value c.args.bytes.now c.in-Ok.sheet c.in-Ok.ensures in v.report
+new-requires c = value c.args.bytes.now c.in-Ok.sheet c.in-Ok.ensures
 
 pub returns-in-Ok-clause-found : goal.returns-in-Ok-clause-found
 returns-in-Ok-clause-found c = found c.args.bytes.now (Ok c.new.result) (c.in-Ok.ensures ∙ ap Ok (sym c.new.ensures))
-
-pub returns-in-Ok-clause-value : goal.returns-in-Ok-clause-value
-returns-in-Ok-clause-value c = value c.args.bytes.now c.new.result (c.in-Ok.ensures ∙ ap Ok (sym c.new.ensures))
 
 pub returns-in-Ok-clause-only : goal.returns-in-Ok-clause-only
 returns-in-Ok-clause-only c = only c.args.bytes.now (Ok c.new.result) (c.in-Ok.ensures ∙ ap Ok (sym c.new.ensures))

@@ -1,0 +1,68 @@
+use Rattle.std.proofs.Common.{◌≡◌, List, [], ◌++◌, false, ap, sym, ◌∙◌, subst}
+use Rattle.std.specs.List.{All}
+use Rattle.std.proofs.lemmas.List.Elements.{All-nil}
+use Rattle.std.specs.Prelude.{map, Option}
+use Rattle.ix_tcpdef.specs.declared.types.Told.{Told}
+use Rattle.ix_tcpdef.specs.Stands.{tcb_of, send_queue, StandsFor}
+use Rattle.ix_tcpdef.specs.Step.{is_alive, step}
+use Rattle.ix_tcpdef.specs.declared.types.Connection.{Connection}
+use Rattle.ix_tcpdef.specs.declared.types.Input.TheVariants as inputs
+use Rattle.ix_tcpdef.specs.declared.types.Job.{Job}
+use Rattle.ix_tcpdef.specs.declared.types.Tcb.{Tcb}
+use Rattle.ix_tcpout.specs.declared.outs.Outs.{Outs}
+use Rattle.ix_tcpout.specs.declared.outs.OutSeg.{OutSeg}
+use Rattle.ix_tcpout.specs.Given.{frame_of, event_of, outputs_of, has_ended, LeavesBytes, LiesIn}
+use Rattle.ix_tcpout.specs.Parts.{work, all_parts}
+use Rattle.ix_tcpout.proofs.RangeLemmas.{lies-all}
+use Rattle.ix_tcpout.proofs.ExpiryLemmas.{idle-ended, bytes_idle}
+use Rattle.ix_tcpout.proofs.CycleLemmas.{FlushesAs, flush_stands, flush_idle}
+use Rattle.ix_tcpout.proofs.cycle.flush_into.Goals as goal
+
+-- ## A connection that doesn't live
+dead : (c : goal.Then-not-is_alive) (w : Connection) → StandsFor c.args.cfg.now c.args.tcb.now w → is_alive w.state ≡ false
+dead c w s = sym (ap (λ (t : Tcb). is_alive t.state) s.numbers) ∙ sym c.is_alive.ensures ∙ c.if-not-is_alive.true
+
+pub returns-then-not-is_alive-clause-stands : goal.returns-then-not-is_alive-clause-stands
+returns-then-not-is_alive-clause-stands c w s =
+    c.numbers_stand_on.ensures.on c.args.cfg.now c.args.tcb.now c.args.tcb.now w inputs.Flush c.args.now tt tt s
+    (s.numbers ∙ ap (λ (j : Job). tcb_of j.connection) (sym (flush_idle c.args.cfg.now c.args.now w (dead c w s))))
+
+pub returns-then-not-is_alive-clause-outputs : goal.returns-then-not-is_alive-clause-outputs
+returns-then-not-is_alive-clause-outputs c w s =
+    ap (outputs_of (send_queue w)) c.clear.ensures ∙ ap (λ (j : Job). j.outputs) (sym (flush_idle c.args.cfg.now c.args.now w (dead c w s)))
+
+pub returns-then-not-is_alive-clause-bytes : goal.returns-then-not-is_alive-clause-bytes
+returns-then-not-is_alive-clause-bytes c w s =
+    subst (λ (j : Job). LeavesBytes w j.connection) (sym (flush_idle c.args.cfg.now c.args.now w (dead c w s))) (bytes_idle w)
+
+pub returns-then-not-is_alive-clause-ended : goal.returns-then-not-is_alive-clause-ended
+returns-then-not-is_alive-clause-ended c w s =
+    ap (λ (o : Outs). o.ended) c.clear.ensures ∙ idle-ended w ∙ ap (λ (j : Job). has_ended w j.connection) (sym (flush_idle c.args.cfg.now c.args.now w (dead c w s)))
+
+pub returns-then-not-is_alive-clause-ranges : goal.returns-then-not-is_alive-clause-ranges
+returns-then-not-is_alive-clause-ranges c = subst (λ (o : Outs). All (LiesIn c.args.tcb.now.queued) o.entries.items) (sym c.clear.ensures) (All-nil (LiesIn c.args.tcb.now.queued))
+
+-- ## One that lives
+flushes : (c : goal.After-send_all) (w : Connection) → StandsFor c.args.cfg.now c.args.tcb.now w → FlushesAs w (all_parts c.args.cfg.now c.args.now (work (tcb_of w) [])) (step c.args.cfg.now w inputs.Flush c.args.now)
+flushes c w s =
+    flush_stands c.args.cfg.now c.args.now w s.kept (sym (ap (λ (t : Tcb). is_alive t.state) s.numbers) ∙ sym c.is_alive.ensures ∙ c.if-not-is_alive.false)
+
+pub returns-clause-stands : goal.returns-clause-stands
+returns-clause-stands c w s =
+    c.numbers_stand_on.ensures.on c.args.cfg.now c.args.tcb.now c.send_all.new.tcb w inputs.Flush c.args.now tt tt s
+    (c.send_all.ensures.numbers ∙ ap (λ (t : Tcb). (all_parts c.args.cfg.now c.args.now (work t [])).numbers) s.numbers ∙ (flushes c w s).numbers)
+
+pub returns-clause-outputs : goal.returns-clause-outputs
+returns-clause-outputs c w s =
+    ap (λ (t : Option Told). map (frame_of (send_queue w)) c.send_all.new.entries.items ++ event_of t) (ap (λ (o : Outs). o.told) c.clear.ensures)
+    ∙ ap (λ (es : List OutSeg). map (frame_of (send_queue w)) es ++ []) (c.send_all.ensures.entries ∙ ap (λ (t : Tcb). (all_parts c.args.cfg.now c.args.now (work t [])).entries) s.numbers)
+    ∙ (flushes c w s).frames
+
+pub returns-clause-bytes : goal.returns-clause-bytes
+returns-clause-bytes c w s = (flushes c w s).bytes
+
+pub returns-clause-ended : goal.returns-clause-ended
+returns-clause-ended c w s = ap (λ (o : Outs). o.ended) c.clear.ensures ∙ (flushes c w s).ended
+
+pub returns-clause-ranges : goal.returns-clause-ranges
+returns-clause-ranges c = subst (All (LiesIn c.args.tcb.now.queued)) (sym (c.send_all.ensures.entries)) (lies-all c.args.cfg.now c.args.now c.args.tcb.now)
