@@ -1,44 +1,82 @@
--- The first of a list of pieces that meets a test.
-use Rattle.std.proofs.Common.{◌≡◌, ℕ, suc, ◌<◌, Bool, true, false, List, [], ◌∷◌, ◌++◌, length, get_or, set, take, drop, refl, sym, ap, ◌∙◌, drop-cons}
-use Rattle.std.specs.Prelude.{Some, is_some, if◌then◌else◌, remove, ◌&&◌}
+-- The first piece that was cut and passes a test, and the first arrival of a tenure.
+use Rattle.std.proofs.Common.{◌≡◌, ℕ, Bool, true, false, List, [], ◌∷◌, get_or, set, refl, sym, ap, ◌∙◌, Some, None}
+use Rattle.std.specs.Prelude.{is_some, if◌then◌else◌, position, remove, ◌==◌, ◌&&◌, ◌||◌}
 use Rattle.std.proofs.lemmas.List.{set_split}
 use Rattle.ix_desk.specs.Views.{CutPiece, Arrival}
-use Rattle.ix_desk.specs.Pieces.{awaits, with_arrival, without_unit, is_done, is_nil}
-use Rattle.ix_desk.specs.Groups.{cut_seated, cut_unit, cut_untaken, done_of, cut_but_done}
+use Rattle.ix_desk.specs.Pieces.{awaits, with_arrival, is_done, is_nil}
+use Rattle.ix_desk.specs.Groups.{arrival_of, arrivals_but, is_awaiting, is_seated, is_finished, cut_awaits, cut_seated, cut_unit, cut_piece_untaken, cut_untaken, no_piece, cut_piece_with, cut_with, done_of, cut_but_done, HasNoUnit, HasUnitAt}
+use Rattle.ix_desk.proofs.First.{changed-at, changed-none, found-at, found-none, passes, within}
 
-module _ {U I : Type 0} (xs : List (CutPiece U I)) (i : ℕ) (x : CutPiece U I) where
-  pub here : i < length xs → x ≡ get_or xs i x → drop i xs ≡ x ∷ drop (suc i) xs
-  here lt read = drop-cons xs i x lt ∙ ap (λ z. z ∷ drop (suc i) xs) (sym read)
+or_else : (a b : Bool) → (a || b) ≡ (if a then true else b)
+or_else true b = refl
+or_else false b = refl
 
-  pub seated-at : (a : Arrival U I) (y : CutPiece U I) → i < length xs → x ≡ get_or xs i x
-      → cut_seated a xs ≡ take i xs ++ cut_seated a (drop i xs) → awaits a.tenure x.piece ≡ true
-      → y ≡ record { to = x.to; piece = with_arrival a x.piece } → set xs i y ≡ cut_seated a xs
-  seated-at a y lt read so test made =
-      let found : cut_seated a (drop i xs) ≡ y ∷ drop (suc i) xs = rw (here lt read, test, ← made) refl in
-      set_split xs i y lt ∙ sym (ap (λ z. take i xs ++ z) found) ∙ sym so
+module _ {U I : Type 0} (cs : List (CutPiece U I)) where
+  pub unit-at : (i : ℕ) → position is_seated cs ≡ Some i → HasUnitAt cs i
+  unit-at i e =
+      let lt = within is_seated cs i no_piece e in
+      record {
+        within = lt;
+        here = passes is_seated cs i no_piece e;
+        unit = found-at is_seated cut_unit (λ c. c.piece.unit) (λ c rest. refl) cs i no_piece e;
+        with = λ u.
+            changed-at is_seated (λ xs. cut_with xs u) (λ c rest. cut_piece_with c u ∷ rest) (λ c rest. refl) cs i no_piece e
+            ∙ sym (set_split cs i (cut_piece_with (get_or cs i no_piece) u) lt);
+        untaken =
+            changed-at is_seated cut_untaken (λ c rest. cut_piece_untaken c ∷ rest) (λ c rest. refl) cs i no_piece e
+            ∙ sym (set_split cs i (cut_piece_untaken (get_or cs i no_piece)) lt);
+      }
 
-  pub untaken-at : (y : CutPiece U I) → i < length xs → x ≡ get_or xs i x
-      → cut_untaken xs ≡ take i xs ++ cut_untaken (drop i xs) → is_some x.piece.unit ≡ true
-      → y ≡ record { to = x.to; piece = without_unit x.piece } → set xs i y ≡ cut_untaken xs
-  untaken-at y lt read so test made =
-      let found : cut_untaken (drop i xs) ≡ y ∷ drop (suc i) xs = rw (here lt read, test, ← made) refl in
-      set_split xs i y lt ∙ sym (ap (λ z. take i xs ++ z) found) ∙ sym so
+  pub no-unit : position is_seated cs ≡ None → HasNoUnit cs
+  no-unit e = record {
+    unit = found-none is_seated cut_unit (λ c. c.piece.unit) (λ c rest. refl) cs None refl e;
+    with = λ u. changed-none is_seated (λ xs. cut_with xs u) (λ c rest. cut_piece_with c u ∷ rest) (λ c rest. refl) cs refl e;
+    untaken = changed-none is_seated cut_untaken (λ c rest. cut_piece_untaken c ∷ rest) (λ c rest. refl) cs refl e;
+  }
 
-  pub unit-at : i < length xs → x ≡ get_or xs i x → cut_unit xs ≡ cut_unit (drop i xs) → is_some x.piece.unit ≡ true → x.piece.unit ≡ cut_unit xs
-  unit-at lt read so test =
-      let found : cut_unit (drop i xs) ≡ x.piece.unit = rw (here lt read, test) refl in
-      sym found ∙ sym so
+  abbrev with_unit_of : Arrival U I → CutPiece U I → CutPiece U I
+  with_unit_of a c = record { to = c.to; piece = with_arrival a c.piece }
 
-  pub done-at : i < length xs → x ≡ get_or xs i x → done_of xs ≡ done_of (drop i xs) → is_done x.piece ≡ true → Some x ≡ done_of xs
-  done-at lt read so test =
-      let found : done_of (drop i xs) ≡ Some x = rw (here lt read, test) refl in
-      sym found ∙ sym so
+  pub seated-at : (a : Arrival U I) (i : ℕ) (x y : CutPiece U I) → position (is_awaiting a.tenure) cs ≡ Some i → x ≡ get_or cs i x
+      → y ≡ record { to = x.to; piece = with_arrival a x.piece } → set cs i y ≡ cut_seated a cs
+  seated-at a i x y e read made =
+      ap (set cs i) (made ∙ ap (with_unit_of a) read)
+      ∙ set_split cs i (with_unit_of a (get_or cs i x)) (within (is_awaiting a.tenure) cs i x e)
+      ∙ sym (changed-at (is_awaiting a.tenure) (cut_seated a) (λ c rest. with_unit_of a c ∷ rest) (λ c rest. refl) cs i x e)
 
-  pub but-done-at : i < length xs → x ≡ get_or xs i x → cut_but_done xs ≡ take i xs ++ cut_but_done (drop i xs) → is_done x.piece ≡ true
-      → remove xs i ≡ cut_but_done xs
-  but-done-at lt read so test =
-      let found : cut_but_done (drop i xs) ≡ drop (suc i) xs = rw (here lt read, test) refl in
-      sym (ap (λ z. take i xs ++ z) found) ∙ sym so
+  pub none-seated : (a : Arrival U I) → position (is_awaiting a.tenure) cs ≡ None → cut_seated a cs ≡ cs
+  none-seated a e = changed-none (is_awaiting a.tenure) (cut_seated a) (λ c rest. record { to = c.to; piece = with_arrival a c.piece } ∷ rest) (λ c rest. refl) cs refl e
+
+  pub awaited : (k i : ℕ) (d : CutPiece U I) → position (is_awaiting k) cs ≡ Some i → cut_awaits k cs ≡ true
+  awaited k i d e = found-at (is_awaiting k) (cut_awaits k) (λ c. true) (λ c rest. or_else (awaits k c.piece) (cut_awaits k rest)) cs i d e
+
+  pub none-awaits : (k : ℕ) → position (is_awaiting k) cs ≡ None → cut_awaits k cs ≡ false
+  none-awaits k e = found-none (is_awaiting k) (cut_awaits k) (λ c. true) (λ c rest. or_else (awaits k c.piece) (cut_awaits k rest)) cs false refl e
+
+  pub done-at : (i : ℕ) (d : CutPiece U I) → position is_finished cs ≡ Some i → done_of cs ≡ Some (get_or cs i d)
+  done-at i d e = found-at is_finished done_of (λ c. Some c) (λ c rest. refl) cs i d e
+
+  pub none-done : position is_finished cs ≡ None → done_of cs ≡ None
+  none-done e = found-none is_finished done_of (λ c. Some c) (λ c rest. refl) cs None refl e
+
+  pub but-done-at : (i : ℕ) (d : CutPiece U I) → position is_finished cs ≡ Some i → cut_but_done cs ≡ remove cs i
+  but-done-at i d e = changed-at is_finished cut_but_done (λ c rest. rest) (λ c rest. refl) cs i d e
+
+  pub none-but-done : position is_finished cs ≡ None → cut_but_done cs ≡ cs
+  none-but-done e = changed-none is_finished cut_but_done (λ c rest. rest) (λ c rest. refl) cs refl e
+
+module _ {U I : Type 0} (arrivals : List (Arrival U I)) (k : ℕ) where
+  pub arrival-at : (i : ℕ) (d : Arrival U I) → position (λ a. a.tenure == k) arrivals ≡ Some i → arrival_of k arrivals ≡ Some (get_or arrivals i d)
+  arrival-at i d e = found-at (λ (a : Arrival U I). a.tenure == k) (arrival_of k) (λ a. Some a) (λ a rest. refl) arrivals i d e
+
+  pub none-arrived : position (λ a. a.tenure == k) arrivals ≡ None → arrival_of k arrivals ≡ None
+  none-arrived e = found-none (λ (a : Arrival U I). a.tenure == k) (arrival_of k) (λ a. Some a) (λ a rest. refl) arrivals None refl e
+
+  pub but-arrival-at : (i : ℕ) (d : Arrival U I) → position (λ a. a.tenure == k) arrivals ≡ Some i → arrivals_but k arrivals ≡ remove arrivals i
+  but-arrival-at i d e = changed-at (λ (a : Arrival U I). a.tenure == k) (arrivals_but k) (λ a rest. rest) (λ a rest. refl) arrivals i d e
+
+  pub none-but-arrived : position (λ a. a.tenure == k) arrivals ≡ None → arrivals_but k arrivals ≡ arrivals
+  none-but-arrived e = changed-none (λ (a : Arrival U I). a.tenure == k) (arrivals_but k) (λ a rest. rest) (λ a rest. refl) arrivals refl e
 
 both : (a b : Bool) → (a && b) ≡ true → a ≡ true
 both true b e = refl

@@ -1,10 +1,10 @@
 pub mod UpTo
+pub mod First
 pub mod Cuts
 pub mod Numbers
 pub mod Joined
 pub mod Places
 pub mod Each
 pub mod Home
-pub mod Lends
 pub mod Order
 pub mod Work

@@ -52,6 +52,16 @@ module _ {U I : Type 0} where
   taken g (Cut to) = record { cut = g.cut ++ cut_of to g.current; current = None; early = g.early; arrived = g.arrived; last = g.last }
   taken g (Start k) = record { cut = g.cut; current = Some (begun k (arrival_of k g.early)); early = arrivals_but k g.early; arrived = g.arrived; last = k }
 
+  -- ## Tests by which a piece among those that were cut is looked for
+  abbrev pub is_awaiting : ℕ → CutPiece U I → Bool
+  is_awaiting k c = awaits k c.piece
+
+  abbrev pub is_seated : CutPiece U I → Bool
+  is_seated c = is_some c.piece.unit
+
+  abbrev pub is_finished : CutPiece U I → Bool
+  is_finished c = is_done c.piece
+
   abbrev pub cut_awaits : ℕ → List (CutPiece U I) → Bool
   cut_awaits k [] = false
   cut_awaits k (c ∷ cs) = awaits k c.piece || cut_awaits k cs
@@ -90,9 +100,12 @@ module _ {U I : Type 0} where
   abbrev pub unit_of : Group U I → Option U
   unit_of g = if is_some (cut_unit g.cut) then cut_unit g.cut else current_unit g.current
 
+  abbrev pub cut_piece_untaken : CutPiece U I → CutPiece U I
+  cut_piece_untaken c = record { to = c.to; piece = without_unit c.piece }
+
   abbrev pub cut_untaken : List (CutPiece U I) → List (CutPiece U I)
   cut_untaken [] = []
-  cut_untaken (c ∷ cs) = if is_some c.piece.unit then record { to = c.to; piece = without_unit c.piece } ∷ cs else c ∷ cut_untaken cs
+  cut_untaken (c ∷ cs) = if is_some c.piece.unit then cut_piece_untaken c ∷ cs else c ∷ cut_untaken cs
 
   abbrev pub current_untaken : Option (Piece U I) → Option (Piece U I)
   current_untaken None = None
@@ -185,3 +198,10 @@ pub record HasUnitAt {U I : Type 0} (cut : List (CutPiece U I)) (i : ℕ) : Type
   pub here : is_some (slice_index_or cut i no_piece).piece.unit ≡ true
   pub unit : cut_unit cut ≡ (slice_index_or cut i no_piece).piece.unit
   pub with : (u : U) → cut_with cut u ≡ slice_set cut i (cut_piece_with (slice_index_or cut i no_piece) u)
+  pub untaken : cut_untaken cut ≡ slice_set cut i (cut_piece_untaken (slice_index_or cut i no_piece))
+
+-- no piece that was cut has its unit
+pub record HasNoUnit {U I : Type 0} (cut : List (CutPiece U I)) : Type 0 where
+  pub unit : cut_unit cut ≡ None
+  pub with : (u : U) → cut_with cut u ≡ cut
+  pub untaken : cut_untaken cut ≡ cut

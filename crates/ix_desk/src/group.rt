@@ -1,8 +1,8 @@
 // The desks of one group on this core.
-ghost use Rattle.std.specs.Prelude.{◌≡◌, ◌+◌, true, false, is_some, length, Some, IfSome, IfNone, IfOk, IfErr, slice_get};
+ghost use Rattle.std.specs.Prelude.{◌≡◌, ◌==◌, ◌+◌, true, false, is_some, length, position, Some, IfSome, IfNone, IfOk, IfErr, slice_get};
 ghost use Rattle.std.specs.List.{list_any};
 ghost use Rattle.std.specs.Option.{option_copied};
-ghost use Rattle.ix_desk.specs.Groups.{arrival_of, arrivals_but, cut_awaits, cut_seated, current_awaits, current_seated, cut_unit, cut_untaken, cut_with, HasUnitAt, done_of, cut_but_done, cut_has_work, current_has_work, cut_waits, current_waits, early_waits};
+ghost use Rattle.ix_desk.specs.Groups.{arrival_of, arrivals_but, cut_awaits, cut_seated, is_awaiting, is_finished, is_seated, current_awaits, current_seated, cut_unit, cut_untaken, cut_with, HasNoUnit, HasUnitAt, done_of, cut_but_done, cut_has_work, current_has_work, cut_waits, current_waits, early_waits};
 
 use crate::desk::Desk;
 use crate::tenures::Tenures;
@@ -411,13 +411,14 @@ fn take_early<U: Drop, I: Drop>(early: &mut Vec<Early<U, I>>, tenure: u32) -> Op
     ensures taken { result ≡ arrival_of tenure early.old.items }
     ensures rest { early.new.items ≡ arrivals_but tenure early.old.items }
 {
-    for i in 0..early.len() {
-        let here = &early[i];
-        if here.tenure == tenure {
-            return Some(early.remove(i));
-        }
-    }
-    None
+    let place = place_of_arrival(early.as_slice(), tenure)?;
+    Some(early.remove(place))
+}
+
+fn place_of_arrival<U: Drop, I: Drop>(early: &[Early<U, I>], tenure: u32) -> Option<usize>
+    ensures { result ≡ position (λ a. a.tenure == tenure) early.now }
+{
+    early.iter().position(|here| here.tenure == tenure)
 }
 
 // Gives a unit that arrived, with its remote queue, to the piece that was cut and awaits it, or gives them back.
@@ -431,14 +432,18 @@ fn seat_cut<U: Drop, I: Drop>(
     ensures seated { IfNone result (cut_awaits tenure cut.old.items ≡ true) }
     ensures back { IfSome result (λ b. (b.0 ≡ unit) × (b.1 ≡ queue) × (cut_awaits tenure cut.old.items ≡ false)) }
 {
-    for i in 0..cut.len() {
-        let here = &mut cut[i];
-        if here.desk.awaits(tenure) {
-            here.desk.seat(unit, queue);
-            return None;
-        }
-    }
-    Some((unit, queue))
+    let Some(place) = place_of_awaiting(cut.as_slice(), tenure) else {
+        return Some((unit, queue));
+    };
+    let here = &mut cut[place];
+    here.desk.seat(unit, queue);
+    None
+}
+
+fn place_of_awaiting<U: Drop, I: Drop>(cut: &[CutDesk<U, I>], tenure: u32) -> Option<usize>
+    ensures { result ≡ position (is_awaiting tenure) cut.now }
+{
+    cut.iter().position(|here| here.desk.awaits(tenure))
 }
 
 // Gives them to the piece to which items come, if that awaits them, or gives them back.
@@ -470,13 +475,9 @@ fn take_cut_unit<U: Drop, I: Drop>(cut: &mut Vec<CutDesk<U, I>>) -> Option<U>
     ensures rest { cut.new.items ≡ cut_untaken cut.old.items }
     ensures none { IfNone result (cut.new.items ≡ cut.old.items) }
 {
-    for i in 0..cut.len() {
-        let here = &mut cut[i];
-        if here.desk.has_unit() {
-            return here.desk.take_unit();
-        }
-    }
-    None
+    let place = place_of_unit(cut.as_slice())?;
+    let here = &mut cut[place];
+    here.desk.take_unit()
 }
 
 // Takes out the oldest piece that is done.
@@ -485,39 +486,37 @@ fn take_done<U: Drop, I: Drop>(cut: &mut Vec<CutDesk<U, I>>) -> Option<CutDesk<U
     ensures rest { cut.new.items ≡ cut_but_done cut.old.items }
     ensures none { IfNone result (cut.new.items ≡ cut.old.items) }
 {
-    for i in 0..cut.len() {
-        let here = &cut[i];
-        if here.desk.is_done() {
-            return Some(cut.remove(i));
-        }
-    }
-    None
+    let place = place_of_finished(cut.as_slice())?;
+    Some(cut.remove(place))
+}
+
+fn place_of_finished<U: Drop, I: Drop>(cut: &[CutDesk<U, I>]) -> Option<usize>
+    ensures { result ≡ position is_finished cut.now }
+{
+    cut.iter().position(|here| here.desk.is_done())
 }
 
 // The unit of the oldest piece that was cut and has one.
 fn find_cut_unit<'a, U: Drop, I: Drop>(cut: &'a [CutDesk<U, I>]) -> Option<&'a U>
     ensures { option_copied result ≡ cut_unit cut.now }
 {
-    for here in cut {
-        if here.desk.has_unit() {
-            return here.desk.unit();
-        }
-    }
-    None
+    let place = place_of_unit(cut)?;
+    let here = &cut[place];
+    here.desk.unit()
 }
 
 // The place of the oldest piece that was cut and has its unit.
 fn place_of_unit<U: Drop, I: Drop>(cut: &[CutDesk<U, I>]) -> Option<usize>
     ensures some { IfSome result (HasUnitAt cut.now) }
-    ensures none { IfNone result ((is_some (cut_unit cut.now) ≡ false) × ((u : U) → cut_with cut.now u ≡ cut.now)) }
+    ensures none { IfNone result (HasNoUnit cut.now) }
 {
-    for place in 0..cut.len() {
-        let here = &cut[place];
-        if here.desk.has_unit() {
-            return Some(place);
-        }
-    }
-    None
+    place_of_seated(cut)
+}
+
+fn place_of_seated<U: Drop, I: Drop>(cut: &[CutDesk<U, I>]) -> Option<usize>
+    ensures { result ≡ position is_seated cut.now }
+{
+    cut.iter().position(|here| here.desk.has_unit())
 }
 
 // An item that waits at pieces that were cut, or how many more places it stands behind them.

@@ -26,3 +26,4 @@ pub mod Windows
 pub mod LeftOver
 pub mod JournalLaws
 pub mod NumberLaws
+pub mod WholeLaws

@@ -20,3 +20,4 @@ pub mod Rest
 pub mod Journal
 pub mod Owners
 pub mod Index
+pub mod Whole

@@ -169,6 +169,13 @@ impl PlainGroup {
         }
     }
 
+    /// Its connections in opening order, ended ones too.
+    pub fn lives(&self) -> &[PlainLife]
+        ensures { result.now ≡ self.now.lives }
+    {
+        &self.lives
+    }
+
     fn stray(
         &mut self,
         turn: Turn,
@@ -253,9 +260,7 @@ impl PlainGroup {
         requires size { All (λ t. length t.frame ≤ 2048) frames }
         ensures { OnePerFlow self.old.lives → OnOk result (self.new ≡ take_frames (setting_of env.now) turn frames self.old) }
     {
-        let mut rest = frames;
-        while rest.len() != 0 {
-            let taken = rest.remove(0);
+        for taken in frames.into_vec() {
             self.take_frame(alloc, env, turn, taken)?;
         }
         Ok(())

@@ -8,6 +8,7 @@ ghost use Rattle.ix_groupdef.specs.Told.{ToldStreams};
 ghost use Rattle.ix_groupdef.specs.StrayFrames.{StraysInOrder, StraysAreLeftOver};
 ghost use Rattle.ix_groupdef.specs.Sent.{FramesFit};
 ghost use Rattle.ix_groupdef.specs.Group.{OneLives};
+ghost use Rattle.ix_groupdef.specs.Whole.{JournalsAreWhole};
 ghost use Rattle.ix_groupdef.specs.Rest.{RestsAfter, ClosedStays, AllRest};
 
 use ix_tcpdef::runs_are_sound;
@@ -25,7 +26,8 @@ use ix_tcpdef::runs_are_sound;
 /// it had no input and its timer is not due; where nothing is answered before anything is told, all are at rest between cycles. Where what is told only adds to the answer, as it does for each application, what TCP took is the
 /// beginning of the answer. What an application was told are the bytes of the delivered parts, and begins the peer's stream where the peer
 /// agrees with itself. Under a configuration in its ranges each frame that a connection gives can be written: its head counts its body,
-/// which has at most 1,460 bytes.
+/// which has at most 1,460 bytes; and what its calls answer is never the answer to a connect. A segment in a journal has its core, and,
+/// where each cycle has an entry, a flush the last entry of its cycle.
 pub fn groups_are_sound()
     ensures runs { AreRuns }
     ensures few { FewLive }
@@ -44,6 +46,7 @@ pub fn groups_are_sound()
     ensures answered { TookFronts }
     ensures told { ToldStreams }
     ensures frames { FramesFit }
+    ensures whole { JournalsAreWhole }
 {
     runs_are_sound();
 }

@@ -7,9 +7,9 @@ use Rattle.std.proofs.lemmas.Slice.Eq.{bytes_eq-Decides}
 use Rattle.ix_words.specs.Parts.{parts, join, lacks, all_lack}
 use Rattle.ix_words.specs.Numbers.{number_of}
 use Rattle.ix_words.specs.Fields.{◌>>=◌, at_end, two_of, place_of}
-use Rattle.ix_words.proofs.PartLaws.{parts-join, is_plain, all_plain, all_lack-plain, lacks-join}
-use Rattle.ix_words.proofs.NumberLaws.{number_of-again, hex8_of-again, plain-decimal}
-use Rattle.ix_words.proofs.FieldLaws.{dotted_of-again, place_of-again, plain-dotted, plain-place, plain-hex8}
+use Rattle.ix_words.specs.PartLaws.{parts-join, is_plain, all_plain, all_lack-plain, lacks-join}
+use Rattle.ix_words.specs.NumberLaws.{number_of-again, hex8_of-again, plain-decimal}
+use Rattle.ix_words.specs.FieldLaws.{dotted_of-again, place_of-again, plain-dotted, plain-place, plain-hex8}
 use Rattle.ix_base.specs.declared.id.BufId.{BufId}
 use Rattle.ix_base.specs.declared.frame.Disposition.{Disposition}
 use Rattle.ix_base.specs.declared.frame.Disposition.TheVariants as kinds

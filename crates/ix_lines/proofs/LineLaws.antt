@@ -9,9 +9,9 @@ use Rattle.std.proofs.lemmas.Slice.Eq.{bytes_eq-Decides}
 use Rattle.ix_words.specs.Parts.{parts, join}
 use Rattle.ix_words.specs.Numbers.{hex8_of}
 use Rattle.ix_words.specs.Fields.{◌>>=◌, at_end, dotted_of, place_of}
-use Rattle.ix_words.proofs.PartLaws.{join-parts}
-use Rattle.ix_words.proofs.NumberLaws.{hex8_of-takes}
-use Rattle.ix_words.proofs.FieldLaws.{word_then, field_then, named_then, number_then, named_number_then, end_then, dotted_of-takes, place_of-takes}
+use Rattle.ix_words.specs.PartLaws.{join-parts}
+use Rattle.ix_words.specs.NumberLaws.{hex8_of-takes}
+use Rattle.ix_words.specs.FieldLaws.{word_then, field_then, named_then, number_then, named_number_then, end_then, dotted_of-takes, place_of-takes}
 use Rattle.ix_lines.specs.declared.line.Line.{Line}
 use Rattle.ix_lines.specs.declared.line.Line.TheVariants as lines
 use Rattle.ix_lines.specs.declared.types.Fate.{Fate}

@@ -9,7 +9,7 @@ use Rattle.std.proofs.lemmas.Option.{same_Some}
 use Rattle.std.proofs.lemmas.Slice.Eq.{bytes_eq-Decides}
 use Rattle.ix_words.specs.Numbers.{number_of}
 use Rattle.ix_words.specs.Fields.{◌>>=◌, field_of, with_rest}
-use Rattle.ix_words.proofs.NumberLaws.{number_of-takes, number_of-again}
+use Rattle.ix_words.specs.NumberLaws.{number_of-takes, number_of-again}
 use Rattle.ix_base.specs.declared.frame.Disposition.{Disposition}
 use Rattle.ix_base.specs.declared.frame.Disposition.TheVariants as kinds
 use Rattle.ix_tcpdef.specs.declared.types.State.{State}

@@ -39,7 +39,7 @@ fn named_group(words: &mut Parts<'_>) -> Option<GroupId>
 fn next_buf(words: &mut Parts<'_>) -> Option<BufId>
     ensures { with_rest words.new (option_map (λ buf. (buf.home.0, buf.slot)) result) ≡ field_of (place_of max8 max32) words.old }
 {
-    let (home, slot) = words.place(255, 4_294_967_295)?;
+    let (home, slot) = words.next_place(255, 4_294_967_295)?;
     Some(BufId {
         home: CoreId(home as u8),
         slot: slot as u32,

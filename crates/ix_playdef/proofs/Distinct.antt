@@ -20,7 +20,7 @@ use Rattle.ix_playdef.specs.declared.order.Reply.{Reply}
 use Rattle.ix_playdef.specs.declared.order.ReplyKey.{ReplyKey}
 use Rattle.ix_playdef.specs.Order.{key_cmp, rank, same_key, wire_cmp}
 use Rattle.ix_playdef.specs.Placed.{placed}
-use Rattle.ix_playdef.specs.Replies.{all_replies, answered, conn_replies, end_at, group_replies, input_replies, key_at, opened_replies, reply_of, stray_key, stray_reply}
+use Rattle.ix_playdef.specs.Replies.{Places, all_replies, answered, conn_replies, end_at, group_replies, input_replies, key_at, opened_replies, reply_of, stray_key, stray_reply}
 
 -- ## What elements give by their places
 each-append : {B : Type 0} (P : B → Type 0) (xs ys : List B) → AllByRecursion P xs → AllByRecursion P ys → AllByRecursion P (xs ++ ys)
@@ -84,8 +84,11 @@ behind_input a b = nat_cmp a.output b.output
 abbrev behind_opening : ReplyKey → ReplyKey → Ordering
 behind_opening a b = ordering_then (nat_cmp a.input b.input) (behind_input a b)
 
+abbrev behind_place : ReplyKey → ReplyKey → Ordering
+behind_place a b = ordering_then (nat_cmp a.opening b.opening) (behind_opening a b)
+
 abbrev behind_phase : ReplyKey → ReplyKey → Ordering
-behind_phase a b = ordering_then (nat_cmp a.opening b.opening) (behind_opening a b)
+behind_phase a b = ordering_then (nat_cmp a.place b.place) (behind_place a b)
 
 abbrev behind_group : ReplyKey → ReplyKey → Ordering
 behind_group a b = ordering_then (nat_cmp (rank a.phase) (rank b.phase)) (behind_phase a b)
@@ -99,21 +102,24 @@ by-entry a b e = rest-differs (option_cmp wire_cmp a.entry b.entry) (behind_entr
 by-phase : (a b : ReplyKey) → is_eq (behind_phase a b) ≡ false → is_eq (key_cmp a b) ≡ false
 by-phase a b e = by-entry a b (rest-differs (nat_cmp a.group.0 b.group.0) (behind_group a b) (rest-differs (nat_cmp (rank a.phase) (rank b.phase)) (behind_phase a b) e))
 
+by-place : (a b : ReplyKey) → is_eq (behind_place a b) ≡ false → is_eq (key_cmp a b) ≡ false
+by-place a b e = by-phase a b (rest-differs (nat_cmp a.place b.place) (behind_place a b) e)
+
 other-group : (r s : Reply) → (r.key.group.0 ≡ s.key.group.0 → ⊥) → same_key r s ≡ false
 other-group r s apart = by-entry r.key s.key (first-differs (nat_cmp r.key.group.0 s.key.group.0) (behind_group r.key s.key) (numbers-differ r.key.group.0 s.key.group.0 apart))
 
 other-opening : (r s : Reply) → (r.key.opening ≡ s.key.opening → ⊥) → same_key r s ≡ false
-other-opening r s apart = by-phase r.key s.key (first-differs (nat_cmp r.key.opening s.key.opening) (behind_opening r.key s.key) (numbers-differ r.key.opening s.key.opening apart))
+other-opening r s apart = by-place r.key s.key (first-differs (nat_cmp r.key.opening s.key.opening) (behind_opening r.key s.key) (numbers-differ r.key.opening s.key.opening apart))
 
 other-input : (r s : Reply) → (r.key.input ≡ s.key.input → ⊥) → same_key r s ≡ false
 other-input r s apart =
-    by-phase r.key s.key
+    by-place r.key s.key
     (rest-differs (nat_cmp r.key.opening s.key.opening) (behind_opening r.key s.key)
     (first-differs (nat_cmp r.key.input s.key.input) (behind_input r.key s.key) (numbers-differ r.key.input s.key.input apart)))
 
 other-output : (r s : Reply) → (r.key.output ≡ s.key.output → ⊥) → same_key r s ≡ false
 other-output r s apart =
-    by-phase r.key s.key
+    by-place r.key s.key
     (rest-differs (nat_cmp r.key.opening s.key.opening) (behind_opening r.key s.key)
     (rest-differs (nat_cmp r.key.input s.key.input) (behind_input r.key s.key) (numbers-differ r.key.output s.key.output apart)))
 
@@ -145,39 +151,39 @@ answer-distinct key (Some frame) = (tt, tt)
 abbrev IsOfInput : ℕ → ℕ → ℕ → Reply → Type 0
 IsOfInput group opening at r = (r.key.group.0 ≡ group) × (r.key.opening ≡ opening) × (r.key.input ≡ at)
 
-input-keys : (local : Local) (group opening : ℕ) (ends : List (Option WireNo)) (at : ℕ) (e : JournalEntry) → AllByRecursion (IsOfInput group opening at) (input_replies local group opening ends at e)
-input-keys local group opening ends at e =
-    each-placed (IsOfInput group opening at) (λ output o. reply_of local (key_at group opening at e.input (end_at ends at) output) o)
+input-keys : (places : Places) (local : Local) (group opening : ℕ) (ends : List (Option WireNo)) (at : ℕ) (e : JournalEntry) → AllByRecursion (IsOfInput group opening at) (input_replies places local group opening ends at e)
+input-keys places local group opening ends at e =
+    each-placed (IsOfInput group opening at) (λ output o. reply_of local (key_at places group opening at e.input (end_at ends at) output) o)
     (λ output o.
-    let key : ReplyKey = key_at group opening at e.input (end_at ends at) output in
+    let key : ReplyKey = key_at places group opening at e.input (end_at ends at) output in
     each-from (HasKey key) (IsOfInput group opening at) (λ r is. (ap (λ (k : ReplyKey). k.group.0) is, ap (λ (k : ReplyKey). k.opening) is, ap (λ (k : ReplyKey). k.input) is))
     (reply_of local key o) (output-key local key o)) 0 e.outputs
 
-input-distinct : (local : Local) (group opening : ℕ) (ends : List (Option WireNo)) (at : ℕ) (e : JournalEntry) → IsDistinct same_key (input_replies local group opening ends at e)
-input-distinct local group opening ends at e =
-    placed-distinct same_key (λ r. r.key.output) other-output (λ output o. reply_of local (key_at group opening at e.input (end_at ends at) output) o)
+input-distinct : (places : Places) (local : Local) (group opening : ℕ) (ends : List (Option WireNo)) (at : ℕ) (e : JournalEntry) → IsDistinct same_key (input_replies places local group opening ends at e)
+input-distinct places local group opening ends at e =
+    placed-distinct same_key (λ r. r.key.output) other-output (λ output o. reply_of local (key_at places group opening at e.input (end_at ends at) output) o)
     (λ output o.
-    let key : ReplyKey = key_at group opening at e.input (end_at ends at) output in
+    let key : ReplyKey = key_at places group opening at e.input (end_at ends at) output in
     each-from (HasKey key) (λ r. r.key.output ≡ output) (λ r is. ap (λ (k : ReplyKey). k.output) is) (reply_of local key o) (output-key local key o))
-    (λ output o. output-distinct local (key_at group opening at e.input (end_at ends at) output) o) 0 e.outputs
+    (λ output o. output-distinct local (key_at places group opening at e.input (end_at ends at) output) o) 0 e.outputs
 
 -- ## A connection
 abbrev IsOfConn : ℕ → ℕ → Reply → Type 0
 IsOfConn group opening r = (r.key.group.0 ≡ group) × (r.key.opening ≡ opening)
 
-conn-keys : (local : Local) (group opening : ℕ) (c : ConnEnd) → AllByRecursion (IsOfConn group opening) (conn_replies local group opening c)
-conn-keys local group opening c =
-    each-placed (IsOfConn group opening) (input_replies local group opening c.ends)
+conn-keys : (places : Places) (local : Local) (group opening : ℕ) (c : ConnEnd) → AllByRecursion (IsOfConn group opening) (conn_replies places local group opening c)
+conn-keys places local group opening c =
+    each-placed (IsOfConn group opening) (input_replies places local group opening c.ends)
     (λ at e.
-    each-from (IsOfInput group opening at) (IsOfConn group opening) (λ r is. (is.0, is.1)) (input_replies local group opening c.ends at e) (input-keys local group opening c.ends at e))
+    each-from (IsOfInput group opening at) (IsOfConn group opening) (λ r is. (is.0, is.1)) (input_replies places local group opening c.ends at e) (input-keys places local group opening c.ends at e))
     0 c.journal
 
-conn-distinct : (local : Local) (group opening : ℕ) (c : ConnEnd) → IsDistinct same_key (conn_replies local group opening c)
-conn-distinct local group opening c =
-    placed-distinct same_key (λ r. r.key.input) other-input (input_replies local group opening c.ends)
+conn-distinct : (places : Places) (local : Local) (group opening : ℕ) (c : ConnEnd) → IsDistinct same_key (conn_replies places local group opening c)
+conn-distinct places local group opening c =
+    placed-distinct same_key (λ r. r.key.input) other-input (input_replies places local group opening c.ends)
     (λ at e.
-    each-from (IsOfInput group opening at) (λ r. r.key.input ≡ at) (λ r is. is.2) (input_replies local group opening c.ends at e) (input-keys local group opening c.ends at e))
-    (input-distinct local group opening c.ends) 0 c.journal
+    each-from (IsOfInput group opening at) (λ r. r.key.input ≡ at) (λ r is. is.2) (input_replies places local group opening c.ends at e) (input-keys places local group opening c.ends at e))
+    (input-distinct places local group opening c.ends) 0 c.journal
 
 -- ## A group
 abbrev IsOfGroup : ℕ → Reply → Type 0
@@ -204,39 +210,39 @@ strays-distinct group strays =
 abbrev IsOpened : ℕ → Reply → Type 0
 IsOpened group r = (r.key.group.0 ≡ group) × (1 ≤ r.key.opening)
 
-conns-keys : (local : Local) (group : ℕ) (conns : List ConnEnd) → AllByRecursion (IsOpened group) (placed (opened_replies local group) 0 conns)
-conns-keys local group conns =
-    each-placed (IsOpened group) (opened_replies local group)
+conns-keys : (places : Places) (local : Local) (group : ℕ) (conns : List ConnEnd) → AllByRecursion (IsOpened group) (placed (opened_replies places local group) 0 conns)
+conns-keys places local group conns =
+    each-placed (IsOpened group) (opened_replies places local group)
     (λ at c.
     each-from (IsOfConn group (at + 1)) (IsOpened group) (λ r is. (is.0, let opened : 1 ≤ r.key.opening = omega (arith, is.1) in opened))
-    (opened_replies local group at c) (conn-keys local group (at + 1) c))
+    (opened_replies places local group at c) (conn-keys places local group (at + 1) c))
     0 conns
 
-conns-distinct : (local : Local) (group : ℕ) (conns : List ConnEnd) → IsDistinct same_key (placed (opened_replies local group) 0 conns)
-conns-distinct local group conns =
-    placed-distinct same_key (λ r. r.key.opening - 1) (λ r s apart. other-opening r s (λ e. apart (ap (λ n. n - 1) e))) (opened_replies local group)
+conns-distinct : (places : Places) (local : Local) (group : ℕ) (conns : List ConnEnd) → IsDistinct same_key (placed (opened_replies places local group) 0 conns)
+conns-distinct places local group conns =
+    placed-distinct same_key (λ r. r.key.opening - 1) (λ r s apart. other-opening r s (λ e. apart (ap (λ n. n - 1) e))) (opened_replies places local group)
     (λ at c.
     each-from (IsOfConn group (at + 1)) (λ r. r.key.opening - 1 ≡ at) (λ r is. let place : r.key.opening - 1 ≡ at = omega (arith, is.1) in place)
-    (opened_replies local group at c) (conn-keys local group (at + 1) c))
-    (λ at c. conn-distinct local group (at + 1) c) 0 conns
+    (opened_replies places local group at c) (conn-keys places local group (at + 1) c))
+    (λ at c. conn-distinct places local group (at + 1) c) 0 conns
 
-group-keys : (local : Local) (group : ℕ) (g : GroupRecord) → AllByRecursion (IsOfGroup group) (group_replies local group g)
-group-keys local group g =
+group-keys : (places : Places) (local : Local) (group : ℕ) (g : GroupRecord) → AllByRecursion (IsOfGroup group) (group_replies places local group g)
+group-keys places local group g =
     let strays : List Reply = placed (stray_reply group) 0 g.strays in
-    let conns : List Reply = placed (opened_replies local group) 0 g.conns in
+    let conns : List Reply = placed (opened_replies places local group) 0 g.conns in
     each-append (IsOfGroup group) strays conns
     (each-from (IsOfConn group 0) (IsOfGroup group) (λ r is. is.0) strays (strays-keys group g.strays))
-    (each-from (IsOpened group) (IsOfGroup group) (λ r is. is.0) conns (conns-keys local group g.conns))
+    (each-from (IsOpened group) (IsOfGroup group) (λ r is. is.0) conns (conns-keys places local group g.conns))
 
-group-distinct : (local : Local) (group : ℕ) (g : GroupRecord) → IsDistinct same_key (group_replies local group g)
-group-distinct local group g =
+group-distinct : (places : Places) (local : Local) (group : ℕ) (g : GroupRecord) → IsDistinct same_key (group_replies places local group g)
+group-distinct places local group g =
     let strays : List Reply = placed (stray_reply group) 0 g.strays in
-    let conns : List Reply = placed (opened_replies local group) 0 g.conns in
-    distinct-append same_key strays conns (strays-distinct group g.strays) (conns-distinct local group g.conns)
+    let conns : List Reply = placed (opened_replies places local group) 0 g.conns in
+    distinct-append same_key strays conns (strays-distinct group g.strays) (conns-distinct places local group g.conns)
     (across same_key (IsOfConn group 0) (IsOpened group) (λ r s stray conn. other-opening r s (λ e. omega (arith, stray.1, conn.1))) strays conns
-    (strays-keys group g.strays) (conns-keys local group g.conns))
+    (strays-keys group g.strays) (conns-keys places local group g.conns))
 
 -- ## All groups
-pub all-distinct : (local : Local) (records : List GroupRecord) → IsDistinct same_key (all_replies local records)
-all-distinct local records =
-    placed-distinct same_key (λ r. r.key.group.0) other-group (group_replies local) (group-keys local) (group-distinct local) 0 records
+pub all-distinct : (places : Places) (local : Local) (records : List GroupRecord) → IsDistinct same_key (all_replies places local records)
+all-distinct places local records =
+    placed-distinct same_key (λ r. r.key.group.0) other-group (group_replies places local) (group-keys places local) (group-distinct places local) 0 records

@@ -40,9 +40,10 @@ key-same a b =
     ap (λ o. ordering_then (option_cmp wire_cmp a.entry b.entry)
     (ordering_then (nat_cmp a.group.0 b.group.0)
     (ordering_then o
+    (ordering_then (nat_cmp a.place b.place)
     (ordering_then (nat_cmp a.opening b.opening)
     (ordering_then (nat_cmp a.input b.input)
-    (nat_cmp a.output b.output)))))) (phase-same a.phase b.phase)
+    (nat_cmp a.output b.output))))))) (phase-same a.phase b.phase)
 
 -- ## The number of a reply among sorted ones
 pub before-same : (a b : ReplyKey) → is_lt (key_ord.ghosts.cmp a b) ≡ is_before a b

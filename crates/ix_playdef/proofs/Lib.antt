@@ -2,7 +2,6 @@ pub mod Loops
 pub mod Lists
 pub mod Ticks
 pub mod Cycles
-pub mod Placed
 pub mod Short
 pub mod FitLaws
 pub mod ConnectLaws

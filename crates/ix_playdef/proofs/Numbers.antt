@@ -14,7 +14,7 @@ use Rattle.ix_playdef.specs.contracts.order.ReplyKeyOrd.TheImpl.Laws.{total-law}
 use Rattle.ix_playdef.specs.declared.order.Reply.{Reply}
 use Rattle.ix_playdef.specs.declared.order.ReplyKey.{ReplyKey}
 use Rattle.ix_playdef.specs.Order.{is_before, key_cmp, key_of, number_of, numbers_among, same_key}
-use Rattle.ix_playdef.specs.Replies.{all_replies}
+use Rattle.ix_playdef.specs.Replies.{Places, all_replies, by_opening}
 use Rattle.ix_playdef.proofs.Distinct.{all-distinct}
 use Rattle.ix_playdef.proofs.Keys.{counted, key-same, none-before}
 
@@ -62,12 +62,20 @@ numbered (x ∷ xs) up apart =
     let there : get_or (range_with_len 0 (length ys)) n 0 ≡ n = omega (arith, get_or-range_with_len 0 (length ys) n 0 within) in
     get_or-map number ys n x 0 within ∙ number-at ys up apart n x within ∙ sym there)
 
--- ## The replies of a play
-pub distinct-replies : (local : Local) (records : List GroupRecord) (xs : List Reply) → IsPermutation (all_replies local records) xs → IsDistinct same_key xs
-distinct-replies local records xs same = IsDistinct-IsPermutation same_key same-turned (all_replies local records) xs same (all-distinct local records)
+-- ## The replies of a play, in whatever order timers and flushes are taken
+pub distinct-replies : (places : Places) (local : Local) (records : List GroupRecord) (xs : List Reply) → IsPermutation (all_replies places local records) xs → IsDistinct same_key xs
+distinct-replies places local records xs same = IsDistinct-IsPermutation same_key same-turned (all_replies places local records) xs same (all-distinct places local records)
 
-pub numbered-replies : (local : Local) (records : List GroupRecord) (xs : List Reply) → IsPermutation (all_replies local records) xs → IsSortedByKey key_of key_cmp xs
+pub numbered-replies : (places : Places) (local : Local) (records : List GroupRecord) (xs : List Reply) → IsPermutation (all_replies places local records) xs → IsSortedByKey key_of key_cmp xs
     → numbers_among xs xs ≡ range_with_len 0 (length xs)
-numbered-replies local records xs same up = numbered xs up (distinct-replies local records xs same)
+numbered-replies places local records xs same up = numbered xs up (distinct-replies places local records xs same)
 
-pub ruleset for_replies = (distinct-replies, numbered-replies)
+-- by the opening order
+pub distinct-opened : (local : Local) (records : List GroupRecord) (xs : List Reply) → IsPermutation (all_replies by_opening local records) xs → IsDistinct same_key xs
+distinct-opened local records xs same = distinct-replies by_opening local records xs same
+
+pub numbered-opened : (local : Local) (records : List GroupRecord) (xs : List Reply) → IsPermutation (all_replies by_opening local records) xs → IsSortedByKey key_of key_cmp xs
+    → numbers_among xs xs ≡ range_with_len 0 (length xs)
+numbered-opened local records xs same up = numbered-replies by_opening local records xs same up
+
+pub ruleset for_replies = (distinct-opened, numbered-opened)

@@ -23,15 +23,16 @@ rank Flush = 3
 abbrev pub wire_cmp : WireNo → WireNo → Ordering
 wire_cmp v w = nat_cmp v.0 w.0
 
--- by the entry, then the group, the phase, the opening order, the input and the output
+-- by the entry, then the group, the phase, the place of the connection there, the opening order, the input and the output
 abbrev pub key_cmp : ReplyKey → ReplyKey → Ordering
 key_cmp a b =
     ordering_then (option_cmp wire_cmp a.entry b.entry)
     (ordering_then (nat_cmp a.group.0 b.group.0)
     (ordering_then (nat_cmp (rank a.phase) (rank b.phase))
+    (ordering_then (nat_cmp a.place b.place)
     (ordering_then (nat_cmp a.opening b.opening)
     (ordering_then (nat_cmp a.input b.input)
-    (nat_cmp a.output b.output)))))
+    (nat_cmp a.output b.output))))))
 
 abbrev pub is_before : ReplyKey → ReplyKey → Bool
 is_before a b = is_lt (key_cmp a b)

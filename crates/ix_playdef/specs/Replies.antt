@@ -1,5 +1,5 @@
 -- The replies of a play: the frames that the connections of its groups give, and the answers to their strays.
-use Rattle.std.specs.Prelude.{ℕ, ◌+◌, ◌<◌, ◌^◌, length, List, [], ◌∷◌, ◌++◌, slice_index_or, All, Option, Some, None}
+use Rattle.std.specs.Prelude.{◌≡◌, ℕ, ◌+◌, ◌<◌, ◌^◌, length, List, [], ◌∷◌, ◌++◌, slice_index_or, All, Option, Some, None}
 use Rattle.ix_base.specs.declared.frame.Local.{Local}
 use Rattle.ix_base.specs.declared.id.WireNo.{WireNo}
 use Rattle.ix_groupdef.specs.declared.types.ConnEnd.{ConnEnd}
@@ -34,29 +34,53 @@ entry_of _ end = end
 abbrev pub end_at : List (Option WireNo) → ℕ → Option WireNo
 end_at ends at = slice_index_or ends at None
 
+-- ## The order of timers and flushes
+-- Where a connection stands among those of its group that give something in one phase of one cycle: by the entry of what they give, the
+-- group, the phase and the opening order. Whoever makes a report chooses it.
+abbrev pub Places : Type 0
+Places = Option WireNo → ℕ → Phase → ℕ → ℕ
+
+-- that of a program which goes by the opening order
+abbrev pub by_opening : Places
+by_opening entry group phase opening = opening
+
+-- It is free for timers and flushes, where no two connections have one place. Connects, and what is given for a frame, go by the opening order.
+pub record IsOrder (places : Places) : Type 0 where
+  pub apart : (entry : Option WireNo) (group : ℕ) (phase : Phase) (a b : ℕ) → places entry group phase a ≡ places entry group phase b → a ≡ b
+  pub connects : (entry : Option WireNo) (group opening : ℕ) → places entry group Connect opening ≡ opening
+  pub taken : (entry : Option WireNo) (group opening : ℕ) → places entry group Taken opening ≡ opening
+
 -- the key of an output with this place, of the connection that opened in this order
-abbrev pub key_at : ℕ → ℕ → ℕ → Input → Option WireNo → ℕ → ReplyKey
-key_at group opening at input end output =
-    record { entry = entry_of input end; group = record { 0 = group }; phase = phase_of input; opening = opening; input = at; output = output }
+abbrev pub key_at : Places → ℕ → ℕ → ℕ → Input → Option WireNo → ℕ → ReplyKey
+key_at places group opening at input end output =
+    record {
+      entry = entry_of input end;
+      group = record { 0 = group };
+      phase = phase_of input;
+      place = places (entry_of input end) group (phase_of input) opening;
+      opening = opening;
+      input = at;
+      output = output;
+    }
 
 abbrev pub reply_of : Local → ReplyKey → Output → List Reply
 reply_of local key (outputs.Frame seg) = record { key = key; frame = frame_bytes seg.head local seg.body } ∷ []
 reply_of local key _ = []
 
 -- ## A connection
-abbrev pub input_replies : Local → ℕ → ℕ → List (Option WireNo) → ℕ → JournalEntry → List Reply
-input_replies local group opening ends at e = placed (λ output o. reply_of local (key_at group opening at e.input (end_at ends at) output) o) 0 e.outputs
+abbrev pub input_replies : Places → Local → ℕ → ℕ → List (Option WireNo) → ℕ → JournalEntry → List Reply
+input_replies places local group opening ends at e = placed (λ output o. reply_of local (key_at places group opening at e.input (end_at ends at) output) o) 0 e.outputs
 
-abbrev pub conn_replies : Local → ℕ → ℕ → ConnEnd → List Reply
-conn_replies local group opening c = placed (input_replies local group opening c.ends) 0 c.journal
+abbrev pub conn_replies : Places → Local → ℕ → ℕ → ConnEnd → List Reply
+conn_replies places local group opening c = placed (input_replies places local group opening c.ends) 0 c.journal
 
 -- The first of a group has the opening order 1.
-abbrev pub opened_replies : Local → ℕ → ℕ → ConnEnd → List Reply
-opened_replies local group at c = conn_replies local group (at + 1) c
+abbrev pub opened_replies : Places → Local → ℕ → ℕ → ConnEnd → List Reply
+opened_replies places local group at c = conn_replies places local group (at + 1) c
 
 -- ## A stray
 abbrev pub stray_key : ℕ → ℕ → WireNo → ReplyKey
-stray_key group at w = record { entry = Some w; group = record { 0 = group }; phase = Taken; opening = 0; input = at; output = 0 }
+stray_key group at w = record { entry = Some w; group = record { 0 = group }; phase = Taken; place = 0; opening = 0; input = at; output = 0 }
 
 abbrev pub answered : ReplyKey → Option (List ℕ) → List Reply
 answered key None = []
@@ -85,8 +109,8 @@ pub record FitsGroup (r : GroupRecord) : Type 0 where
   pub conns : All CanAllBeWritten r.conns
   pub strays : All IsShortlyAnswered r.strays
 
-abbrev pub group_replies : Local → ℕ → GroupRecord → List Reply
-group_replies local group r = placed (stray_reply group) 0 r.strays ++ placed (opened_replies local group) 0 r.conns
+abbrev pub group_replies : Places → Local → ℕ → GroupRecord → List Reply
+group_replies places local group r = placed (stray_reply group) 0 r.strays ++ placed (opened_replies places local group) 0 r.conns
 
-abbrev pub all_replies : Local → List GroupRecord → List Reply
-all_replies local records = placed (group_replies local) 0 records
+abbrev pub all_replies : Places → Local → List GroupRecord → List Reply
+all_replies places local records = placed (group_replies places local) 0 records

@@ -26,8 +26,8 @@ pub fn clocks_of(alloc: Global, entries: &[Entry]) -> Result<Vec<u64>, NoMemory>
 {
     let mut clock = 0;
     let mut clocks = Vec::with_capacity(alloc, entries.len())?;
-    for i in 0..entries.len() {
-        clock = clock_after(clock, entries[i]);
+    for entry in entries {
+        clock = clock_after(clock, *entry);
         clocks.push(clock)?;
     }
     Ok(clocks)

@@ -73,8 +73,8 @@ fn connects_to(alloc: Global, peers: &[(u32, u16)]) -> Result<Vec<PushConnect>, 
     ensures apart { (ip : ℕ) → IfOk result (λ connects. AreApart ip connects.items) }
 {
     let mut connects = Vec::new(alloc);
-    for i in 0..peers.len() {
-        let (ip, port) = peers[i];
+    for (i, peer) in peers.iter().enumerate() {
+        let (ip, port) = *peer;
         let local_port = port_behind(&peers[..i], (ip, port));
         connects.push(PushConnect {
             ip,
@@ -165,9 +165,8 @@ fn answers_to(
     ensures { IfOk result (λ answers. answers.items ≡ map (answer_to_peer neighbours.now) peers.now) }
 {
     let mut answers = Vec::with_capacity(alloc, peers.len())?;
-    for i in 0..peers.len() {
-        let (ip, _) = peers[i];
-        answers.push(answer_with_room(neighbours, ip))?;
+    for peer in peers {
+        answers.push(answer_with_room(neighbours, peer.0))?;
     }
     Ok(answers)
 }

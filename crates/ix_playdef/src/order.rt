@@ -31,6 +31,9 @@ pub struct ReplyKey {
     pub entry: Option<WireNo>,
     pub group: GroupId,
     pub phase: Phase,
+    /// Where its connection stands among those of the group that give something in this phase of this cycle, as whoever makes the report
+    /// chose it; 0 for the answer to a stray.
+    pub place: usize,
     /// 0 for the answer to a stray, else one more than the place of its connection among those of its group, in opening order.
     pub opening: usize,
     /// The place in the connection's journal of the input that gave it; for the answer to a stray that of the stray among those of the group.

@@ -163,8 +163,7 @@ pub fn initial_numbers(
 {
     let mut pairs = Vec::new(alloc);
     let spans = capture.spans();
-    for i in 0..spans.len() {
-        let span = spans[i];
+    for span in spans {
         if let Some(pair) = named_by_frame(local, &bytes[span.from..span.to]) {
             pairs.push(pair)?;
         }

@@ -6,7 +6,7 @@ ghost use Rattle.ix_groupdef.specs.Journal.{seen_entry, seen_input};
 ghost use Rattle.ix_groupdef.specs.Sent.{CanBeWritten};
 ghost use Rattle.ix_playdef.specs.Order.{is_before, key_cmp, key_of, number_of, numbers_among, same_key};
 ghost use Rattle.ix_playdef.specs.Placed.{placed};
-ghost use Rattle.ix_playdef.specs.Replies.{CanAllBeWritten, FitsGroup, IsShort, IsShortlyAnswered, all_replies, conn_replies, end_at, entry_of, group_replies, input_replies, key_at, opened_replies, phase_of, reply_of, stray_key, stray_reply};
+ghost use Rattle.ix_playdef.specs.Replies.{CanAllBeWritten, FitsGroup, IsShort, IsShortlyAnswered, all_replies, by_opening, conn_replies, end_at, entry_of, group_replies, input_replies, key_at, opened_replies, phase_of, reply_of, stray_key, stray_reply};
 ghost use Rattle.ix_seg.specs.Written.{frame_bytes};
 
 use crate::order::{Phase, Reply, ReplyKey, in_order};
@@ -56,7 +56,7 @@ pub fn end_at(ends: &[Option<WireNo>], at: usize) -> Option<WireNo>
 }
 
 /// The key of what an input of a connection gives at a place: of the connection's group, its opening order, which begins at 1, the place
-/// of the input in its journal, and the last entry of the cycle of the input.
+/// of the input in its journal, and the last entry of the cycle of the input. Timers and flushes of a cycle go by the opening order.
 pub fn key_at(
     group: GroupId,
     opening: usize,
@@ -65,12 +65,13 @@ pub fn key_at(
     end: Option<WireNo>,
     output: usize,
 ) -> ReplyKey
-    ensures { result ≡ key_at group.0 opening at (seen_input input.entry) end output }
+    ensures { result ≡ key_at by_opening group.0 opening at (seen_input input.entry) end output }
 {
     ReplyKey {
         entry: entry_of(input, end),
         group,
         phase: phase_of(input),
+        place: opening,
         opening,
         input: at,
         output,
@@ -85,6 +86,7 @@ pub fn stray_key(group: GroupId, at: usize, w: WireNo) -> ReplyKey
         entry: Some(w),
         group,
         phase: Phase::Taken,
+        place: 0,
         opening: 0,
         input: at,
         output: 0,
@@ -130,7 +132,7 @@ struct ConnPlace {
 }
 
 // Adds those of an input.
-#[tactic(auto, using(crate::proofs::Placed::steps))]
+#[tactic(auto, using(crate::specs::Placed::steps))]
 fn push_input(
     alloc: Global,
     local: &Local,
@@ -141,20 +143,20 @@ fn push_input(
     replies: &mut Vec<Reply>,
 ) -> Result<(), NoMemory>
     requires { All CanBeWritten view.now.outputs.now }
-    ensures replies { OnOk result (replies.new.items ≡ replies.old.items ++ input_replies local.now place.group.0 place.opening ends.now at (seen_entry view.now)) }
+    ensures replies { OnOk result (replies.new.items ≡ replies.old.items ++ input_replies by_opening local.now place.group.0 place.opening ends.now at (seen_entry view.now)) }
     ensures short { All IsShort replies.old.items → OnOk result (All IsShort replies.new.items) }
 {
     let end = end_at(ends, at);
     let outputs = view.outputs.as_slice();
-    for i in 0..outputs.len() {
+    for (i, output) in outputs.iter().enumerate() {
         let key = key_at(place.group, place.opening, at, view.input, end, i);
-        push_output(alloc, local, key, &outputs[i], replies)?;
+        push_output(alloc, local, key, output, replies)?;
     }
     Ok(())
 }
 
 // Adds those of a connection.
-#[tactic(auto, using(crate::proofs::Placed::steps))]
+#[tactic(auto, using(crate::specs::Placed::steps))]
 fn push_conn(
     alloc: Global,
     local: &Local,
@@ -163,7 +165,7 @@ fn push_conn(
     replies: &mut Vec<Reply>,
 ) -> Result<(), NoMemory>
     requires { CanAllBeWritten conn.now }
-    ensures replies { OnOk result (replies.new.items ≡ replies.old.items ++ conn_replies local.now place.group.0 place.opening conn.now) }
+    ensures replies { OnOk result (replies.new.items ≡ replies.old.items ++ conn_replies by_opening local.now place.group.0 place.opening conn.now) }
     ensures short { All IsShort replies.old.items → OnOk result (All IsShort replies.new.items) }
 {
     let journal = &conn.journal;
@@ -196,7 +198,7 @@ fn push_stray(
 }
 
 // Adds the answers to the strays of a group.
-#[tactic(auto, using(crate::proofs::Placed::steps))]
+#[tactic(auto, using(crate::specs::Placed::steps))]
 fn push_strays(
     alloc: Global,
     group: GroupId,
@@ -207,14 +209,14 @@ fn push_strays(
     ensures replies { OnOk result (replies.new.items ≡ replies.old.items ++ placed (stray_reply group.0) 0 strays.now) }
     ensures short { All IsShort replies.old.items → OnOk result (All IsShort replies.new.items) }
 {
-    for i in 0..strays.len() {
-        push_stray(alloc, group, i, &strays[i], replies)?;
+    for (i, stray) in strays.iter().enumerate() {
+        push_stray(alloc, group, i, stray, replies)?;
     }
     Ok(())
 }
 
 // Adds those of the connections of a group.
-#[tactic(auto, using(crate::proofs::Placed::steps))]
+#[tactic(auto, using(crate::specs::Placed::steps))]
 fn push_conns(
     alloc: Global,
     local: &Local,
@@ -223,15 +225,15 @@ fn push_conns(
     replies: &mut Vec<Reply>,
 ) -> Result<(), NoMemory>
     requires { All CanAllBeWritten conns.now }
-    ensures replies { OnOk result (replies.new.items ≡ replies.old.items ++ placed (opened_replies local.now group.0) 0 conns.now) }
+    ensures replies { OnOk result (replies.new.items ≡ replies.old.items ++ placed (opened_replies by_opening local.now group.0) 0 conns.now) }
     ensures short { All IsShort replies.old.items → OnOk result (All IsShort replies.new.items) }
 {
-    for i in 0..conns.len() {
+    for (i, conn) in conns.iter().enumerate() {
         let place = ConnPlace {
             group,
             opening: i + 1,
         };
-        push_conn(alloc, local, place, &conns[i], replies)?;
+        push_conn(alloc, local, place, conn, replies)?;
     }
     Ok(())
 }
@@ -245,7 +247,7 @@ fn push_group(
     replies: &mut Vec<Reply>,
 ) -> Result<(), NoMemory>
     requires { FitsGroup left.now }
-    ensures replies { OnOk result (replies.new.items ≡ replies.old.items ++ group_replies local.now group.0 left.now) }
+    ensures replies { OnOk result (replies.new.items ≡ replies.old.items ++ group_replies by_opening local.now group.0 left.now) }
     ensures short { All IsShort replies.old.items → OnOk result (All IsShort replies.new.items) }
 {
     push_strays(alloc, group, left.strays.as_slice(), replies)?;
@@ -253,7 +255,7 @@ fn push_group(
 }
 
 // Adds those of all groups.
-#[tactic(auto, using(crate::proofs::Placed::steps))]
+#[tactic(auto, using(crate::specs::Placed::steps))]
 fn push_groups(
     alloc: Global,
     local: &Local,
@@ -262,11 +264,11 @@ fn push_groups(
 ) -> Result<(), NoMemory>
     requires groups { length records.now ≤ 512 }
     requires fit { All FitsGroup records.now }
-    ensures replies { OnOk result (replies.new.items ≡ replies.old.items ++ all_replies local.now records.now) }
+    ensures replies { OnOk result (replies.new.items ≡ replies.old.items ++ all_replies by_opening local.now records.now) }
     ensures short { All IsShort replies.old.items → OnOk result (All IsShort replies.new.items) }
 {
-    for i in 0..records.len() {
-        push_group(alloc, local, GroupId(i as u16), &records[i], replies)?;
+    for (i, left) in records.iter().enumerate() {
+        push_group(alloc, local, GroupId(i as u16), left, replies)?;
     }
     Ok(())
 }
@@ -280,7 +282,7 @@ pub fn replies_of(
 ) -> Result<Vec<Reply>, NoMemory>
     requires groups { length records.now ≤ 512 }
     requires fit { All FitsGroup records.now }
-    ensures same { IfOk result (λ replies. IsPermutation (all_replies local.now records.now) replies.items) }
+    ensures same { IfOk result (λ replies. IsPermutation (all_replies by_opening local.now records.now) replies.items) }
     ensures order { IfOk result (λ replies. IsSortedByKey key_of key_cmp replies.items) }
     ensures distinct { IfOk result (λ replies. IsDistinct same_key replies.items) }
     ensures numbers { IfOk result (λ replies. numbers_among replies.items replies.items ≡ range_with_len 0 (length replies.items)) }

@@ -47,8 +47,7 @@ fn give_frame(
 fn give_time(w: WireNo, t: u32, lists: &mut [List<Given>]) -> Result<(), NoMemory>
     ensures { OnOk result (GetTime w.0 t lists.old lists.new) }
 {
-    for i in 0..lists.len() {
-        let list = &mut lists[i];
+    for list in lists.iter_mut() {
         list.push(Given::Time { w, t })?;
     }
     Ok(())
@@ -84,7 +83,7 @@ fn empty_lists(alloc: Global) -> Result<Vec<List<Given>>, NoMemory>
     ensures empty { IfOk result (λ lists. AreEmpty lists.items) }
 {
     let mut lists = Vec::with_capacity(alloc, FLOW_GROUPS)?;
-    for i in 0..FLOW_GROUPS {
+    for _group in 0..FLOW_GROUPS {
         lists.push(List::new(alloc))?;
     }
     Ok(lists)
@@ -105,8 +104,8 @@ fn give_all(
     requires empty { AreEmpty lists.old }
     ensures { OnOk result (AreGiven (frames_of bytes.now spans.now) entries.now lists.new) }
 {
-    for i in 0..entries.len() {
-        give(alloc, bytes, spans, WireNo(i as u32), entries[i], lists)?;
+    for (i, entry) in entries.iter().enumerate() {
+        give(alloc, bytes, spans, WireNo(i as u32), *entry, lists)?;
     }
     Ok(())
 }

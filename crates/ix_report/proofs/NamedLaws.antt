@@ -22,7 +22,7 @@ use Rattle.ix_tcpdef.specs.declared.types.Told.{Told}
 use Rattle.ix_tcpdef.specs.declared.types.Told.TheVariants as told
 use Rattle.ix_playdef.specs.Order.{number_of, numbers_among}
 use Rattle.ix_playdef.specs.Placed.{placed}
-use Rattle.ix_playdef.specs.Replies.{all_replies, answered, end_at, input_replies, key_at, opened_replies, reply_of, stray_key, stray_reply}
+use Rattle.ix_playdef.specs.Replies.{Places, all_replies, answered, end_at, input_replies, key_at, opened_replies, reply_of, stray_key, stray_reply}
 use Rattle.ix_playdef.specs.declared.order.Reply.{Reply}
 use Rattle.ix_playdef.specs.declared.order.ReplyKey.{ReplyKey}
 use Rattle.ix_report.specs.Lines.{all_strays, conn_lines, group_lines, group_strays, input_kind, input_lines, lines_of, one_stray, opening_of, output_line, reply_number, told_line}
@@ -115,26 +115,26 @@ told-unnamed n (told.Sent bytes window) = refl
 told-unnamed n told.DeadReset = refl
 told-unnamed n told.DeadTimeout = refl
 
-module _ (replies : List Reply) (n : ℕ) (local : Local) where
+module _ (places : Places) (replies : List Reply) (n : ℕ) (local : Local) where
   output-named : (key : ReplyKey) (o : Output) → count_by (names n) (lines.Output (output_line replies key o) ∷ []) ≡ count_by (has replies n) (reply_of local key o)
   output-named key (outputs.Frame seg) = refl
   output-named key (outputs.Told t) = count-no (names n) (lines.Output (output_line replies key (outputs.Told t))) [] (told-unnamed n t)
   output-named key (outputs.Ret r) = refl
 
   input-named : (group opening : ℕ) (ends : List (Option WireNo)) (at : ℕ) (e : JournalEntry)
-      → count_by (names n) (input_lines replies group opening ends at e) ≡ count_by (has replies n) (input_replies local group opening ends at e)
+      → count_by (names n) (input_lines places replies group opening ends at e) ≡ count_by (has replies n) (input_replies places local group opening ends at e)
   input-named group opening ends at e =
-      let given : ℕ → Output → List Line = λ output o. lines.Output (output_line replies (key_at group opening at e.input (end_at ends at) output) o) ∷ [] in
+      let given : ℕ → Output → List Line = λ output o. lines.Output (output_line replies (key_at places group opening at e.input (end_at ends at) output) o) ∷ [] in
       count-no (names n) (lines.Input (input_kind e.input e.clock e.core (end_at ends at))) (placed given 0 e.outputs) refl
-      ∙ count-placed (names n) (has replies n) given (λ output o. reply_of local (key_at group opening at e.input (end_at ends at) output) o)
-      (λ output o. output-named (key_at group opening at e.input (end_at ends at) output) o) 0 e.outputs
+      ∙ count-placed (names n) (has replies n) given (λ output o. reply_of local (key_at places group opening at e.input (end_at ends at) output) o)
+      (λ output o. output-named (key_at places group opening at e.input (end_at ends at) output) o) 0 e.outputs
 
-  conn-named : (group at : ℕ) (c : ConnEnd) → count_by (names n) (conn_lines replies group at c) ≡ count_by (has replies n) (opened_replies local group at c)
+  conn-named : (group at : ℕ) (c : ConnEnd) → count_by (names n) (conn_lines places replies group at c) ≡ count_by (has replies n) (opened_replies places local group at c)
   conn-named group at c =
-      let journal : List Line = placed (input_lines replies group (at + 1) c.ends) 0 c.journal in
+      let journal : List Line = placed (input_lines places replies group (at + 1) c.ends) 0 c.journal in
       count-no (names n) (lines.Conn at (opening_of group c)) (journal ++ lines.Left c.left ∷ lines.Answer c.wrote c.taken ∷ []) refl
       ∙ (let parts : count_by (names n) (journal ++ lines.Left c.left ∷ lines.Answer c.wrote c.taken ∷ []) ≡ count_by (names n) journal + 0 = count-append (names n) journal (lines.Left c.left ∷ lines.Answer c.wrote c.taken ∷ []) in omega (arith, parts))
-      ∙ count-placed (names n) (has replies n) (input_lines replies group (at + 1) c.ends) (input_replies local group (at + 1) c.ends)
+      ∙ count-placed (names n) (has replies n) (input_lines places replies group (at + 1) c.ends) (input_replies places local group (at + 1) c.ends)
       (input-named group (at + 1) c.ends) 0 c.journal
 
   answer-named : (key : ReplyKey) (frame : Option (List ℕ)) → 0 + cond (answer_names n (reply_number replies key frame)) 1 0 ≡ count_by (has replies n) (answered key frame)
@@ -146,19 +146,19 @@ module _ (replies : List Reply) (n : ℕ) (local : Local) where
 
   -- in which the strays of all groups stand in front
   all-named : (groups : List GroupRecord)
-      → count_by (λ (l : StrayLine). names n (lines.Stray l)) (all_strays replies groups) + count_by (names n) (placed (group_lines replies) 0 groups)
-      ≡ count_by (has replies n) (all_replies local groups)
+      → count_by (λ (l : StrayLine). names n (lines.Stray l)) (all_strays replies groups) + count_by (names n) (placed (group_lines places replies) 0 groups)
+      ≡ count_by (has replies n) (all_replies places local groups)
   all-named groups =
       let answers : ℕ → GroupRecord → List Reply = λ group r. placed (stray_reply group) 0 r.strays in
-      let frames : ℕ → GroupRecord → List Reply = λ group r. placed (opened_replies local group) 0 r.conns in
+      let frames : ℕ → GroupRecord → List Reply = λ group r. placed (opened_replies places local group) 0 r.conns in
       let is_named : StrayLine → Bool = λ l. names n (lines.Stray l) in
       let strays : count_by is_named (all_strays replies groups) ≡ count_by (has replies n) (placed answers 0 groups) =
       count-placed is_named (has replies n) (group_strays replies) answers
       (λ group r. count-placed is_named (has replies n) (one_stray replies group) (stray_reply group) (stray-named group) 0 r.strays) 0 groups in
-      let conns : count_by (names n) (placed (group_lines replies) 0 groups) ≡ count_by (has replies n) (placed frames 0 groups) =
-      count-placed (names n) (has replies n) (group_lines replies) frames
-      (λ group r. count-placed (names n) (has replies n) (conn_lines replies group) (opened_replies local group) (conn-named group) 0 r.conns) 0 groups in
-      let parts : count_by (has replies n) (all_replies local groups) ≡ count_by (has replies n) (placed answers 0 groups) + count_by (has replies n) (placed frames 0 groups) =
+      let conns : count_by (names n) (placed (group_lines places replies) 0 groups) ≡ count_by (has replies n) (placed frames 0 groups) =
+      count-placed (names n) (has replies n) (group_lines places replies) frames
+      (λ group r. count-placed (names n) (has replies n) (conn_lines places replies group) (opened_replies places local group) (conn-named group) 0 r.conns) 0 groups in
+      let parts : count_by (has replies n) (all_replies places local groups) ≡ count_by (has replies n) (placed answers 0 groups) + count_by (has replies n) (placed frames 0 groups) =
       count-parts (has replies n) answers frames 0 groups in
       omega (arith, strays, conns, parts)
 
@@ -168,24 +168,24 @@ has-once : (replies : List Reply) (n : ℕ) → numbers_among replies replies �
 has-once replies n numbered =
     sym (count-map (λ m. m == n) (λ (r : Reply). number_of replies r.key) replies) ∙ ap (count_by (λ m. m == n)) numbered ∙ count-first n (length replies)
 
-one-line : (local : Local) (r : Report)
-    → IsPermutation (all_replies local r.groups) r.replies → numbers_among r.replies r.replies ≡ range_with_len 0 (length r.replies) → IsPermutation (all_strays r.replies r.groups) r.strays
-    → (n : ℕ) → count_by (names n) (lines_of r) ≡ (if nat_lt n (length r.replies) then 1 else 0)
-one-line local r same numbered moved n =
+one-line : (places : Places) (local : Local) (r : Report)
+    → IsPermutation (all_replies places local r.groups) r.replies → numbers_among r.replies r.replies ≡ range_with_len 0 (length r.replies) → IsPermutation (all_strays r.replies r.groups) r.strays
+    → (n : ℕ) → count_by (names n) (lines_of places r) ≡ (if nat_lt n (length r.replies) then 1 else 0)
+one-line places local r same numbered moved n =
     let is_named : StrayLine → Bool = λ l. names n (lines.Stray l) in
     let strays : List Line = map lines.Stray r.strays in
-    let entries : List Line = placed (group_lines r.replies) 0 r.groups in
+    let entries : List Line = placed (group_lines places r.replies) 0 r.groups in
     let end : List Line = lines.End (length r.replies) r.drops ∷ [] in
     let front : count_by (names n) (strays ++ (entries ++ end)) ≡ count_by (names n) strays + count_by (names n) (entries ++ end) = count-append (names n) strays (entries ++ end) in
     let back : count_by (names n) (entries ++ end) ≡ count_by (names n) entries + 0 = count-append (names n) entries end in
     let by_strays : count_by (names n) strays ≡ count_by is_named (all_strays r.replies r.groups) =
     count-map (names n) lines.Stray r.strays ∙ count-moved is_named (all_strays r.replies r.groups) r.strays moved in
-    let all : count_by is_named (all_strays r.replies r.groups) + count_by (names n) entries ≡ count_by (has r.replies n) (all_replies local r.groups) = all-named r.replies n local r.groups in
-    let kept : count_by (has r.replies n) r.replies ≡ count_by (has r.replies n) (all_replies local r.groups) = count-moved (has r.replies n) (all_replies local r.groups) r.replies same in
+    let all : count_by is_named (all_strays r.replies r.groups) + count_by (names n) entries ≡ count_by (has r.replies n) (all_replies places local r.groups) = all-named places r.replies n local r.groups in
+    let kept : count_by (has r.replies n) r.replies ≡ count_by (has r.replies n) (all_replies places local r.groups) = count-moved (has r.replies n) (all_replies places local r.groups) r.replies same in
     let sum : count_by (names n) (strays ++ (entries ++ end)) ≡ count_by (has r.replies n) r.replies = omega (arith, front, back, by_strays, all, kept) in
     sum ∙ has-once r.replies n numbered
 
-pub named-once : (local : Local) (r : Report)
-    → IsPermutation (all_replies local r.groups) r.replies → numbers_among r.replies r.replies ≡ range_with_len 0 (length r.replies) → IsPermutation (all_strays r.replies r.groups) r.strays
-    → NamesEachOnce r
-named-once local r same numbered moved = record { count = one-line local r same numbered moved }
+pub named-once : (places : Places) (local : Local) (r : Report)
+    → IsPermutation (all_replies places local r.groups) r.replies → numbers_among r.replies r.replies ≡ range_with_len 0 (length r.replies) → IsPermutation (all_strays r.replies r.groups) r.strays
+    → NamesEachOnce places r
+named-once places local r same numbered moved = record { count = one-line places local r same numbered moved }

@@ -22,7 +22,7 @@ use Rattle.ix_lines.specs.declared.types.RetLine.TheVariants as rets
 use Rattle.ix_lines.specs.declared.types.StrayLine.{StrayLine}
 use Rattle.ix_playdef.specs.Order.{number_of}
 use Rattle.ix_playdef.specs.Placed.{placed}
-use Rattle.ix_playdef.specs.Replies.{end_at, key_at, stray_key}
+use Rattle.ix_playdef.specs.Replies.{Places, end_at, key_at, stray_key}
 use Rattle.ix_playdef.specs.declared.order.Reply.{Reply}
 use Rattle.ix_playdef.specs.declared.order.ReplyKey.{ReplyKey}
 use Rattle.ix_tcpdef.specs.declared.types.Ask.{Ask}
@@ -80,23 +80,23 @@ input_kind (inputs.Call ask) clock core end = call_kind ask
 input_kind inputs.Flush clock core end = kinds.Flush (unwrap_or end (record { 0 = 0 }))
 
 -- with what it gave; at: its place in the journal
-abbrev pub input_lines : List Reply → ℕ → ℕ → List (Option WireNo) → ℕ → JournalEntry → List Line
-input_lines replies group opening ends at e =
+abbrev pub input_lines : Places → List Reply → ℕ → ℕ → List (Option WireNo) → ℕ → JournalEntry → List Line
+input_lines places replies group opening ends at e =
     lines.Input (input_kind e.input e.clock e.core (end_at ends at))
-    ∷ placed (λ output o. lines.Output (output_line replies (key_at group opening at e.input (end_at ends at) output) o) ∷ []) 0 e.outputs
+    ∷ placed (λ output o. lines.Output (output_line replies (key_at places group opening at e.input (end_at ends at) output) o) ∷ []) 0 e.outputs
 
 -- ## A connection, by its place among those of its group
 abbrev pub opening_of : ℕ → ConnEnd → Opening
 opening_of group c =
     record { group = record { 0 = group }; remote = c.flow.remote; remote_port = c.flow.remote_port; local_port = c.flow.local_port; iss = c.iss }
 
-abbrev pub conn_lines : List Reply → ℕ → ℕ → ConnEnd → List Line
-conn_lines replies group order c =
+abbrev pub conn_lines : Places → List Reply → ℕ → ℕ → ConnEnd → List Line
+conn_lines places replies group order c =
     (lines.Conn order (opening_of group c) ∷ [])
-    ++ (placed (input_lines replies group (order + 1) c.ends) 0 c.journal ++ lines.Left c.left ∷ lines.Answer c.wrote c.taken ∷ [])
+    ++ (placed (input_lines places replies group (order + 1) c.ends) 0 c.journal ++ lines.Left c.left ∷ lines.Answer c.wrote c.taken ∷ [])
 
-abbrev pub group_lines : List Reply → ℕ → GroupRecord → List Line
-group_lines replies group r = placed (conn_lines replies group) 0 r.conns
+abbrev pub group_lines : Places → List Reply → ℕ → GroupRecord → List Line
+group_lines places replies group r = placed (conn_lines places replies group) 0 r.conns
 
 -- ## Strays
 abbrev pub reply_number : List Reply → ReplyKey → Option (List ℕ) → Option ℕ
@@ -121,10 +121,10 @@ abbrev pub wire_of : StrayLine → ℕ
 wire_of s = s.w.0
 
 -- ## The report
-abbrev pub lines_of : Report → List Line
-lines_of r =
-    map lines.Stray r.strays ++ (placed (group_lines r.replies) 0 r.groups ++ lines.End (length r.replies) r.drops ∷ [])
+abbrev pub lines_of : Places → Report → List Line
+lines_of places r =
+    map lines.Stray r.strays ++ (placed (group_lines places r.replies) 0 r.groups ++ lines.End (length r.replies) r.drops ∷ [])
 
 -- the text of a report
-unfoldable pub short_text : Report → List ℕ
-short_text r = BEGINNING.now ++ text_of (lines_of r)
+unfoldable pub short_text : Places → Report → List ℕ
+short_text places r = BEGINNING.now ++ text_of (lines_of places r)

@@ -4,6 +4,7 @@ use Rattle.ix_lines.specs.declared.line.Line.{Line}
 use Rattle.ix_lines.specs.declared.line.Line.TheVariants as lines
 use Rattle.ix_lines.specs.declared.types.OutputLine.{OutputLine}
 use Rattle.ix_lines.specs.declared.types.OutputLine.TheVariants as given
+use Rattle.ix_playdef.specs.Replies.{Places}
 use Rattle.ix_report.specs.Lines.{lines_of}
 use Rattle.ix_report.specs.declared.report.Report.{Report}
 
@@ -22,5 +23,5 @@ names n (lines.Stray s) = answer_names n s.reply
 names n _ = false
 
 -- Exactly one line of the report names each record, counted from 0, and none names a record that isn't there.
-pub record NamesEachOnce (r : Report) : Type 0 where
-  pub count : (n : ℕ) → count_by (names n) (lines_of r) ≡ (if nat_lt n (length r.replies) then 1 else 0)
+pub record NamesEachOnce (places : Places) (r : Report) : Type 0 where
+  pub count : (n : ℕ) → count_by (names n) (lines_of places r) ≡ (if nat_lt n (length r.replies) then 1 else 0)

@@ -5,6 +5,7 @@ ghost use Rattle.ix_groupdef.specs.Journal.{seen_entry, seen_input};
 ghost use Rattle.ix_lines.specs.declared.line.Line.TheVariants as kinds;
 ghost use Rattle.ix_playdef.specs.Order.{key_cmp, key_of, number_of};
 ghost use Rattle.ix_playdef.specs.Placed.{placed};
+ghost use Rattle.ix_playdef.specs.Replies.{by_opening};
 ghost use Rattle.ix_report.specs.Lines.{call_kind, conn_lines, group_lines, input_kind, input_lines, lines_of, opening_of, output_line, ret_line, told_line};
 
 use crate::report::Report;
@@ -113,7 +114,7 @@ fn push_output(
 }
 
 // Adds those of an input with what it gave.
-#[tactic(auto, using(ix_playdef::proofs::Placed::steps))]
+#[tactic(auto, using(ix_playdef::specs::Placed::steps))]
 fn push_input(
     replies: &[Reply],
     group: GroupId,
@@ -125,20 +126,20 @@ fn push_input(
 ) -> Result<(), NoMemory>
     requires order { IsSortedByKey key_of key_cmp replies.now }
     requires few { length replies.now < 2 ^ 32 }
-    ensures { OnOk result (lines.new.items ≡ lines.old.items ++ input_lines replies.now group.0 opening ends.now at (seen_entry view.now)) }
+    ensures { OnOk result (lines.new.items ≡ lines.old.items ++ input_lines by_opening replies.now group.0 opening ends.now at (seen_entry view.now)) }
 {
     let end = end_at(ends, at);
     lines.push(Line::Input(input_kind(view, end)))?;
     let outputs = view.outputs.as_slice();
-    for i in 0..outputs.len() {
+    for (i, output) in outputs.iter().enumerate() {
         let key = key_at(group, opening, at, view.input, end, i);
-        push_output(replies, &key, &outputs[i], lines)?;
+        push_output(replies, &key, output, lines)?;
     }
     Ok(())
 }
 
 // Adds those of a journal.
-#[tactic(auto, using(ix_playdef::proofs::Placed::steps))]
+#[tactic(auto, using(ix_playdef::specs::Placed::steps))]
 fn push_journal(
     replies: &[Reply],
     group: GroupId,
@@ -149,7 +150,7 @@ fn push_journal(
 ) -> Result<(), NoMemory>
     requires order { IsSortedByKey key_of key_cmp replies.now }
     requires few { length replies.now < 2 ^ 32 }
-    ensures { OnOk result (lines.new.items ≡ lines.old.items ++ placed (input_lines replies.now group.0 opening ends.now) 0 journal.now) }
+    ensures { OnOk result (lines.new.items ≡ lines.old.items ++ placed (input_lines by_opening replies.now group.0 opening ends.now) 0 journal.now) }
 {
     for i in 0..journal.len() {
         let view = journal.entry(i);
@@ -181,7 +182,7 @@ fn push_conn(
     requires order { IsSortedByKey key_of key_cmp replies.now }
     requires few { length replies.now < 2 ^ 32 }
     requires place { order < 2 ^ 63 }
-    ensures { OnOk result (lines.new.items ≡ lines.old.items ++ conn_lines replies.now group.0 order conn.now) }
+    ensures { OnOk result (lines.new.items ≡ lines.old.items ++ conn_lines by_opening replies.now group.0 order conn.now) }
 {
     lines.push(Line::Conn {
         order: order as u64,
@@ -198,7 +199,7 @@ fn push_conn(
 }
 
 // Adds those of the connections of a group.
-#[tactic(auto, using(ix_playdef::proofs::Placed::steps))]
+#[tactic(auto, using(ix_playdef::specs::Placed::steps))]
 fn push_group(
     replies: &[Reply],
     group: GroupId,
@@ -207,16 +208,16 @@ fn push_group(
 ) -> Result<(), NoMemory>
     requires order { IsSortedByKey key_of key_cmp replies.now }
     requires few { length replies.now < 2 ^ 32 }
-    ensures { OnOk result (lines.new.items ≡ lines.old.items ++ placed (conn_lines replies.now group.0) 0 conns.now) }
+    ensures { OnOk result (lines.new.items ≡ lines.old.items ++ placed (conn_lines by_opening replies.now group.0) 0 conns.now) }
 {
-    for i in 0..conns.len() {
-        push_conn(replies, group, i, &conns[i], lines)?;
+    for (i, conn) in conns.iter().enumerate() {
+        push_conn(replies, group, i, conn, lines)?;
     }
     Ok(())
 }
 
 // Adds those of all groups.
-#[tactic(auto, using(ix_playdef::proofs::Placed::steps))]
+#[tactic(auto, using(ix_playdef::specs::Placed::steps))]
 fn push_groups(
     replies: &[Reply],
     groups: &[GroupRecord],
@@ -225,15 +226,10 @@ fn push_groups(
     requires order { IsSortedByKey key_of key_cmp replies.now }
     requires few { length replies.now < 2 ^ 32 }
     requires groups { length groups.now ≤ 512 }
-    ensures { OnOk result (lines.new.items ≡ lines.old.items ++ placed (group_lines replies.now) 0 groups.now) }
+    ensures { OnOk result (lines.new.items ≡ lines.old.items ++ placed (group_lines by_opening replies.now) 0 groups.now) }
 {
-    for i in 0..groups.len() {
-        push_group(
-            replies,
-            GroupId(i as u16),
-            groups[i].conns.as_slice(),
-            lines,
-        )?;
+    for (i, left) in groups.iter().enumerate() {
+        push_group(replies, GroupId(i as u16), left.conns.as_slice(), lines)?;
     }
     Ok(())
 }
@@ -242,8 +238,8 @@ fn push_groups(
 fn push_strays(strays: &[StrayLine], lines: &mut Vec<Line>) -> Result<(), NoMemory>
     ensures { OnOk result (lines.new.items ≡ lines.old.items ++ map kinds.Stray strays.now) }
 {
-    for i in 0..strays.len() {
-        lines.push(Line::Stray(strays[i]))?;
+    for stray in strays {
+        lines.push(Line::Stray(*stray))?;
     }
     Ok(())
 }
@@ -253,7 +249,7 @@ pub fn lines_of(alloc: Global, report: &Report) -> Result<Vec<Line>, NoMemory>
     requires order { IsSortedByKey key_of key_cmp report.now.replies }
     requires few { length report.now.replies < 2 ^ 32 }
     requires groups { length report.now.groups ≤ 512 }
-    ensures { IfOk result (λ lines. lines.items ≡ lines_of report.now) }
+    ensures { IfOk result (λ lines. lines.items ≡ lines_of by_opening report.now) }
 {
     let mut lines = Vec::new(alloc);
     let replies = report.replies.as_slice();

@@ -2,7 +2,7 @@
 ghost use Rattle.std.specs.Prelude.{◌≡◌, ◌≤◌, ◌<◌, ◌^◌, All, IfOk, count_by, length};
 ghost use Rattle.ix_conf.specs.Settings.{settings_of};
 ghost use Rattle.ix_pcap.specs.Capture.{IsSpanOf, frames_of};
-ghost use Rattle.ix_playdef.specs.Replies.{IsShort};
+ghost use Rattle.ix_playdef.specs.Replies.{IsShort, by_opening};
 ghost use Rattle.ix_report.specs.Fits.{Fits, is_dropped};
 
 use crate::report::Report;
@@ -37,13 +37,10 @@ fn drops_of(bytes: &[u8], spans: &[Span], entries: &[Entry]) -> usize
     ensures count { result ≡ count_by (is_dropped (frames_of bytes.now spans.now)) entries.now }
     ensures bound { result ≤ length entries.now }
 {
-    let mut drops = 0;
-    for i in 0..entries.len() {
-        if is_dropped(bytes, spans, entries[i]) {
-            drops += 1;
-        }
-    }
-    drops
+    entries
+        .iter()
+        .filter(|entry| is_dropped(bytes, spans, **entry))
+        .count()
 }
 
 /// A whole play on one core, where each frame is a cycle of its own: its report fits the configuration, the capture and the wire list.
@@ -57,7 +54,7 @@ pub fn play(
 ) -> Result<Report, NoMemory>
     requires spans { All (IsSpanOf bytes.now) capture.now }
     requires numbers { length entries.now < 2 ^ 32 }
-    ensures fits { IfOk result (λ report. Fits (settings_of conf.now) (frames_of bytes.now capture.now) entries.now report) }
+    ensures fits { IfOk result (λ report. Fits (settings_of conf.now) (frames_of bytes.now capture.now) entries.now by_opening report) }
     ensures few { IfOk result (λ report. length report.replies < 2 ^ 32) }
     ensures short { IfOk result (λ report. All IsShort report.replies) }
 {

@@ -38,7 +38,7 @@ fn stray_line(replies: &[Reply], group: GroupId, at: usize, stray: &Stray) -> St
 }
 
 // Adds those of a group.
-#[tactic(auto, using(ix_playdef::proofs::Placed::steps))]
+#[tactic(auto, using(ix_playdef::specs::Placed::steps))]
 fn push_group(
     replies: &[Reply],
     group: GroupId,
@@ -49,14 +49,14 @@ fn push_group(
     requires few { length replies.now < 2 ^ 32 }
     ensures { OnOk result (lines.new.items ≡ lines.old.items ++ placed (one_stray replies.now group.0) 0 strays.now) }
 {
-    for i in 0..strays.len() {
-        lines.push(stray_line(replies, group, i, &strays[i]))?;
+    for (i, stray) in strays.iter().enumerate() {
+        lines.push(stray_line(replies, group, i, stray))?;
     }
     Ok(())
 }
 
 // Adds those of all groups.
-#[tactic(auto, using(ix_playdef::proofs::Placed::steps))]
+#[tactic(auto, using(ix_playdef::specs::Placed::steps))]
 fn push_groups(
     replies: &[Reply],
     groups: &[GroupRecord],
@@ -67,13 +67,8 @@ fn push_groups(
     requires groups { length groups.now ≤ 512 }
     ensures { OnOk result (lines.new.items ≡ lines.old.items ++ all_strays replies.now groups.now) }
 {
-    for i in 0..groups.len() {
-        push_group(
-            replies,
-            GroupId(i as u16),
-            groups[i].strays.as_slice(),
-            lines,
-        )?;
+    for (i, left) in groups.iter().enumerate() {
+        push_group(replies, GroupId(i as u16), left.strays.as_slice(), lines)?;
     }
     Ok(())
 }

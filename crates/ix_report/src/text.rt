@@ -3,6 +3,7 @@ ghost use Rattle.std.specs.Prelude.{◌≡◌, ◌≤◌, ◌<◌, ◌^◌, ◌+
 ghost use Rattle.std.specs.List.Sorted.{IsSortedByKey};
 ghost use Rattle.ix_lines.specs.Words.{text_of};
 ghost use Rattle.ix_playdef.specs.Order.{key_cmp, key_of};
+ghost use Rattle.ix_playdef.specs.Replies.{by_opening};
 ghost use Rattle.ix_report.specs.Lines.{short_text};
 
 use crate::lines::lines_of;
@@ -18,8 +19,8 @@ const BEGINNING: &str = "head 0\n";
 fn push_lines(text: &mut String, lines: &[Line]) -> Result<(), AllocError>
     ensures { OnOk result (string_bytes text.new ≡ string_bytes text.old ++ text_of lines.now) }
 {
-    for i in 0..lines.len() {
-        push_line(text, lines[i])?;
+    for line in lines {
+        push_line(text, *line)?;
     }
     Ok(())
 }
@@ -30,7 +31,7 @@ pub fn short_text(alloc: Global, report: &Report) -> Result<Bytes, NoMemory>
     requires order { IsSortedByKey key_of key_cmp report.now.replies }
     requires few { length report.now.replies < 2 ^ 32 }
     requires groups { length report.now.groups ≤ 512 }
-    ensures { IfOk result (λ text. text ≡ short_text report.now) }
+    ensures { IfOk result (λ text. text ≡ short_text by_opening report.now) }
 {
     let lines = lines_of(alloc, report)?;
     let mut text = String::from_str(alloc, BEGINNING)?;

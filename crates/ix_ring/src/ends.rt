@@ -82,8 +82,8 @@ impl<T> TakeEnd<T> {
     ghost use mathlib.Core.List.{IsPrefix};
     ghost use Rattle.ix_ring.specs.Ends.{taken, known, SameTakeEnd};
 
-    // The number of items that this end knows of.
-    fn known_count(&self) -> usize
+    /// The number of items in the ring that this end knows of.
+    pub fn known_count(&self) -> usize
         ensures { result ≡ length (known self.now) }
     {
         self.consumer.cached_slots()

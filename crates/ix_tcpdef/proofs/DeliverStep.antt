@@ -23,8 +23,7 @@ use Rattle.ix_tcpdef.specs.Calls.{is_live, as_told, recv_of, kept_end, is_close_
 use Rattle.ix_tcpdef.specs.Sound.{IsInRange, IsKept, is_unknown}
 use Rattle.ix_tcpdef.specs.Step.{Moment, checked, arrived_in, arrived, is_alive, stepped, step, last, run_outputs, listening}
 use Rattle.ix_tcpdef.specs.Laws.{AreWritten}
-use Rattle.ix_base.specs.Prefix.{IsPrefix}
-use Rattle.ix_base.proofs.Prefixes.{prefix_nil}
+use Rattle.ix_base.specs.Prefix.{IsPrefix, prefix_nil}
 use Rattle.ix_tcpdef.specs.Delivered.{recv_from, recvs, all_recvs, after, Came, CameInOrder, IsTold, told_pieces, bytes_of, from_position, AreOf, expects, in_window, AgreesAt, PeerAgrees}
 use Rattle.ix_tcpdef.proofs.KeptStep.{kept-step}
 use Rattle.ix_tcpdef.proofs.KeptCalls.{live-known, listen-is, closed-unknown}

@@ -47,6 +47,7 @@ pub struct Piece {
     pub w: WireNo,
     /// Its first place in that segment's frame.
     pub from: u16,
+    /// The bytes of the part.
     pub bytes: Bytes,
     /// Whether the application was told of it.
     pub told: bool,
@@ -57,9 +58,11 @@ pub struct Piece {
 pub struct HeldSegment {
     /// The position of its first octet.
     pub at: u64,
+    /// Its wire number.
     pub w: WireNo,
     /// Its first place in its frame.
     pub from: u16,
+    /// Its octets, as far as they lie in the window.
     pub bytes: Bytes,
     /// Whether a FIN stands behind its octets.
     pub fin: bool,
@@ -69,8 +72,11 @@ pub struct HeldSegment {
 /// of a stream stands at position i + 1 and nothing wraps.
 #[derive(Drop)]
 pub struct Connection {
+    /// Its two ends.
     pub flow: Flow,
+    /// The hardware address that its frames go to.
     pub peer_mac: [u8; 6],
+    /// Its state.
     pub state: State,
     /// The initial send sequence number.
     pub iss: u32,
@@ -86,8 +92,9 @@ pub struct Connection {
     pub nxt: u64,
     /// RCV.NXT: the position that is expected next.
     pub rcv: u64,
-    /// SND.WND, SND.WL1 and SND.WL2: the peer's window, and the segment that it was taken from.
+    /// SND.WND: the peer's window, in bytes.
     pub wnd: u32,
+    /// SND.WL1 and SND.WL2: the sequence and the acknowledgement number of the segment from which that window was taken.
     pub wl1: u32,
     pub wl2: u32,
     /// All parts that were ever delivered, in order.
@@ -100,8 +107,9 @@ pub struct Connection {
     pub deadline: Option<u64>,
     /// How often it expired in a row.
     pub expiries: u8,
-    /// The congestion window and the slow start threshold (RFC 5681).
+    /// The congestion window, in bytes (RFC 5681).
     pub cwnd: u32,
+    /// The slow start threshold, in bytes (RFC 5681).
     pub ssthresh: u32,
     /// How many duplicate acknowledgements came in a row.
     pub dups: u8,
@@ -109,34 +117,47 @@ pub struct Connection {
     pub recovering: bool,
     /// Whether the first unacknowledged segment is to be sent again at the next flush.
     pub resend: bool,
-    /// Whether its stream is closed, and whether the FIN was sent.
+    /// Whether its stream is closed, so that a FIN is to follow its bytes.
     pub fin_wanted: bool,
+    /// Whether the FIN was sent.
     pub fin_sent: bool,
     /// Whether the application is to be told when there is room to send.
     pub wants: bool,
+    /// Whether the next flush has to send an acknowledgement.
     pub ack_owed: bool,
-    /// Whether a knock was told, whether the connection is accepted or connected, and whether the application closed it.
+    /// Whether a knock was told.
     pub knocked: bool,
+    /// Whether the application accepted it, or the connection that it asked for stands.
     pub accepted: bool,
+    /// Whether the application closed it.
     pub shut: bool,
 }
 
 /// A call of the application, without its handle and with its chunks joined.
 #[derive(Drop)]
 pub enum Ask {
+    /// Opens a connection to the peer.
     Connect,
+    /// Takes the connection of which a knock was told.
     Accept,
+    /// Gives bytes to be sent.
     Sendv { bytes: Bytes },
+    /// Gives back so many bytes of those that came.
     RecvDone { bytes: u32 },
+    /// Ends this side's stream; nothing more is read.
     Close,
 }
 
 /// What happens to a connection.
 #[derive(Drop)]
 pub enum Input {
+    /// A segment of its flow arrives, with its wire number.
     Segment { w: WireNo, seg: Seg },
+    /// Its timer expires.
     Timer,
+    /// The application calls.
     Call(Ask),
+    /// A cycle ends: what is due is sent.
     Flush,
 }
 
@@ -148,7 +169,9 @@ pub enum Told {
     Knock,
     /// The connection that the application asked for stands.
     ConnectedUp,
+    /// The peer refused it.
     ConnectedRefused,
+    /// The peer did not answer.
     ConnectedTimeout,
     /// Bytes came: the wire number of their segment, their first place in its frame, and how many.
     Recv { w: WireNo, from: u16, len: u16 },
@@ -156,15 +179,20 @@ pub enum Told {
     RecvEnd,
     /// So many bytes were acknowledged, and so many more may be given.
     Sent { bytes: u32, window: u32 },
+    /// The peer reset the connection.
     DeadReset,
+    /// The peer acknowledged nothing for too long.
     DeadTimeout,
 }
 
 /// What a connection gives.
 #[derive(Drop)]
 pub enum Output {
+    /// A segment that is sent.
     Frame(Seg),
+    /// An event for the application.
     Told(Told),
+    /// What a call of the application came to.
     Ret(Ret),
 }
 
@@ -173,10 +201,13 @@ pub type Outputs = List<Output>;
 /// How a connection was left, in positions.
 #[derive(Clone, Copy, Debug, PartialEq, Eq)]
 pub struct Left {
+    /// Its state.
     pub state: State,
+    /// SND.UNA, SND.NXT and RCV.NXT.
     pub una: u64,
     pub nxt: u64,
     pub rcv: u64,
+    /// The congestion window and the slow start threshold, in bytes.
     pub cwnd: u32,
     pub ssthresh: u32,
 }
@@ -184,12 +215,16 @@ pub struct Left {
 /// What a held segment is among numbers: where it begins, how long it is, and whether a FIN stands behind it.
 #[derive(Clone, Copy, Debug, Default, PartialEq, Eq)]
 pub struct HeldHead {
+    /// The sequence number of its first octet.
     pub at: u32,
+    /// How many octets it has.
     pub len: u16,
+    /// Whether a FIN stands behind them.
     pub fin: bool,
 }
 
-/// The numbers of one connection modulo 2^32, without its bytes.
+/// The numbers of one connection modulo 2^32, without its bytes. What a field means is said at the field of that name of `Connection`, but
+/// that each position is a sequence number here (RFC 9293, section 3.4).
 #[derive(Drop)]
 pub struct Tcb {
     pub flow: Flow,
@@ -197,11 +232,13 @@ pub struct Tcb {
     pub state: State,
     pub iss: u32,
     pub irs: u32,
+    /// SND.UNA and SND.NXT.
     pub una: u32,
     pub nxt: u32,
     pub wnd: u32,
     pub wl1: u32,
     pub wl2: u32,
+    /// RCV.NXT.
     pub rcv_nxt: u32,
     pub unread: u32,
     pub mss: u16,
@@ -209,6 +246,7 @@ pub struct Tcb {
     pub queued: u32,
     pub expiries: u8,
     pub deadline: Option<u64>,
+    /// What waits behind a hole, by rising position: at most as many as a connection holds.
     pub held: ArrayVec<HeldHead, 8>,
     pub cwnd: u32,
     pub ssthresh: u32,
@@ -227,7 +265,9 @@ pub struct Tcb {
 /// A step that is under way: the connection so far, and what it gave so far.
 #[derive(Drop)]
 pub struct Job {
+    /// The connection so far.
     pub connection: Connection,
+    /// What it gave so far.
     pub outputs: Outputs,
 }
 
@@ -238,6 +278,7 @@ pub struct Octets {
     pub at: u64,
     /// Its place in the frame.
     pub from: u16,
+    /// The octets themselves.
     pub bytes: Bytes,
     /// Whether none was cut off behind them.
     pub whole: bool,

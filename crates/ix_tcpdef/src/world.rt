@@ -73,6 +73,13 @@ impl World1 {
         }
     }
 
+    /// All of it, to be looked at.
+    pub fn connection(&self) -> &Connection
+        ensures { result.now ≡ self.now }
+    {
+        &self.connection
+    }
+
     /// State, positions and windows of congestion control.
     pub fn left(&self) -> Left
         ensures value { result ≡ left_of self.now }

@@ -22,6 +22,7 @@ use Rattle.ix_conf.specs.declared.keys.ConfFault.{ConfFault}
 use Rattle.ix_pcap.specs.Written.{capture_bytes}
 use Rattle.ix_playdef.specs.Order.{sent_of}
 use Rattle.ix_playdef.specs.Own.{own_frame}
+use Rattle.ix_playdef.specs.Replies.{by_opening}
 use Rattle.ix_report.specs.Fits.{Fits}
 use Rattle.ix_report.specs.Lines.{short_text}
 use Rattle.ix_report.specs.declared.report.Report.{Report}
@@ -86,12 +87,12 @@ play_meaning g =
 abbrev pub replies_file : List Entry → Report → List ℕ
 replies_file entries report = capture_bytes (map (sent_of entries) report.replies)
 
--- the two files are those of a report that fits these inputs
+-- The two files are those of a report that fits these inputs, where timers and flushes go by the opening order of their connections.
 pub record AreFiles (inputs : Inputs) (replies trace : List ℕ) : Type 0 where
   pub report : Report
-  pub fits : Fits inputs.settings inputs.frames inputs.entries report
+  pub fits : Fits inputs.settings inputs.frames inputs.entries by_opening report
   pub replies_are : replies ≡ replies_file inputs.entries report
-  pub trace_is : trace ≡ short_text report
+  pub trace_is : trace ≡ short_text by_opening report
 
 -- the host tells what the three roles have left
 pub record Tells (x : State) (g : Given) : Type 0 where

@@ -1,3 +1,4 @@
+pub mod Exact
 pub mod SoFar
 pub mod Follows
 pub mod Live

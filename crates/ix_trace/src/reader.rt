@@ -9,7 +9,7 @@ use crate::progress::{Progress, step};
 use crate::report::Report;
 use crate::sheet::Sheet;
 use ix_base::NoMemory;
-use ix_lines::line_read;
+use ix_lines::{line_read, lines_are_exact};
 use ix_words::split_part;
 use std::alloc::Global;
 
@@ -76,6 +76,7 @@ pub fn read_trace(alloc: Global, bytes: &[u8]) -> Result<Report, TraceFault>
     // The number is that of the first bad line.
     ensures line { IfErr result (λ f. IsNumber bytes.now f) }
 {
+    lines_are_exact();
     match read_all(alloc, bytes) {
         Ok(sheet) => Ok(Report::new(sheet)),
         Err(fault) => Err(fault),
@@ -86,6 +87,7 @@ pub fn read_trace(alloc: Global, bytes: &[u8]) -> Result<Report, TraceFault>
 pub fn one_text(one: &Report, other: &Report)
     ensures { report_text one.now ≡ report_text other.now → one.now ≡ other.now }
 {
+    lines_are_exact();
     // What a report keeps is known where it is looked at.
     let _one = one.head();
     let _other = other.head();

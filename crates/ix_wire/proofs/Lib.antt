@@ -5,6 +5,7 @@ pub mod CountLaws
 pub mod Effects
 pub mod EntryLaws
 pub mod GroupLaws
+pub mod Onward
 pub mod ProgressLaws
 pub mod PutLaws
 pub mod RecordLaws

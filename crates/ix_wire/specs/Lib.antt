@@ -6,6 +6,7 @@ pub mod Kept
 pub mod Kind
 pub mod Progress
 pub mod Records
+pub mod Saved
 pub mod Script
 pub mod Table
 pub mod Text

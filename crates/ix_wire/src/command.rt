@@ -5,6 +5,10 @@ ghost use Rattle.ix_wire.specs.Command.{IsCommand, command_of, number_named, pla
 
 use crate::fault::ScriptKind;
 use crate::text::number_in;
+use ix_base::FLOW_GROUPS;
+
+/// How many classes of flow groups there are: the groups of a class stand this far from one another.
+pub const CLASSES: u16 = 128;
 
 /// What a number of a `tag` or a `move` line names: in version 1 a class of four flow groups, in version 2 one flow group.
 #[derive(Clone, Copy, Debug, PartialEq, Eq)]
@@ -29,8 +33,8 @@ impl Version {
         ensures { result ≡ places_of self }
     {
         match self {
-            Version::One => 128,
-            Version::Two => 512,
+            Version::One => CLASSES as usize,
+            Version::Two => FLOW_GROUPS,
         }
     }
 }

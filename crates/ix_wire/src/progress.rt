@@ -1,19 +1,20 @@
 // What the lines so far have come to, and what one line more does.
-ghost use Rattle.std.specs.Prelude.{◌≡◌, ◌<◌, ◌≤◌, ◌^◌, ◌+◌, ◌*◌, All, IfOk, Ok, length};
+ghost use Rattle.std.specs.Prelude.{◌≡◌, ◌<◌, ◌≤◌, ◌^◌, ◌+◌, ◌*◌, All, IfOk, Ok, OnErr, length, true};
 ghost use Rattle.std.specs.List.{list_all};
 ghost use Rattle.ix_cp.specs.Plan.{IsMoveTo};
 ghost use Rattle.ix_wire.specs.Chain.{Leaves};
 ghost use Rattle.ix_wire.specs.Command.{IsCommand, places_of, width_of};
+ghost use Rattle.ix_wire.specs.Saved.{GoesOn, IsMark, restored, saved_of};
 ghost use Rattle.ix_wire.specs.Table.{groups_from};
 ghost use Rattle.ix_wire.specs.Progress.{add_run, each_run, frames_run, is_printable, is_skipped, line_run, move_run, revoke_run, run, tag_run, time_run, with_all_planned, with_plan, with_planned, with_step, with_steps, with_tag, with_tags};
 
-use crate::command::{Command, Version, command_of};
+use crate::command::{CLASSES, Command, Version, command_of};
 use crate::entry::Entry;
 use crate::fault::{Refused, ScriptKind};
 use crate::records::Records;
 use crate::table::Table;
-use crate::wire::Wire;
-use ix_base::{CoreId, GroupId};
+use crate::wire::{Mark, Wire};
+use ix_base::{CoreId, GroupId, NoMemory};
 use ix_cp::PlanMove;
 use std::alloc::Global;
 
@@ -30,8 +31,18 @@ pub struct Progress {
     pub begun: bool,
 }
 
+/// What a line may change, as it was before it.
+#[derive(Drop)]
+struct Saved {
+    wire: Mark,
+    table: Table,
+    clock: u32,
+    version: Version,
+    begun: bool,
+}
+
 impl Progress {
-    /// Carries out a line, or says why it is refused.
+    /// Carries out a line, or says why it is refused, and then leaves all as it was.
     #[tactic(auto, unfolding(crate::specs::Progress::line_run))]
     pub fn line(
         &mut self,
@@ -40,7 +51,8 @@ impl Progress {
         number: u32,
         line: &[u8],
     ) -> Result<(), Refused>
-        ensures { Leaves result self.new (line_run records.now number line.now self.old) }
+        ensures is { Leaves result self.new (line_run records.now number line.now self.old) }
+        ensures refused { OnErr result (self.new ≡ self.old) }
     {
         if line.len() > MAX_LINE {
             return Err(Refused::Kind(ScriptKind::TooLong));
@@ -52,12 +64,66 @@ impl Progress {
             return Err(Refused::Kind(ScriptKind::Word));
         }
         match command_of(self.begun, self.version, line) {
-            Ok(command) => {
-                self.begun = true;
-                self.run(alloc, records, number, command)
-            }
+            Ok(command) => self.attempt(alloc, records, number, command),
             Err(kind) => Err(Refused::Kind(kind)),
         }
+    }
+
+    // Carries out a command of a line, or leaves all as it was.
+    fn attempt(
+        &mut self,
+        alloc: Global,
+        records: &Records<'_>,
+        number: u32,
+        command: Command,
+    ) -> Result<(), Refused>
+        requires { IsCommand self.old.version command }
+        ensures is { Leaves result self.new (run records.now number command (record self.old { begun = true })) }
+        ensures refused { OnErr result (self.new ≡ self.old) }
+    {
+        let Ok(saved) = self.save(alloc) else {
+            return Err(Refused::NoMemory);
+        };
+        self.begun = true;
+        match self.run(alloc, records, number, command) {
+            Ok(()) => Ok(()),
+            Err(refused) => {
+                self.restore(saved);
+                Err(refused)
+            }
+        }
+    }
+
+    fn save(&self, alloc: Global) -> Result<Saved, NoMemory>
+        ensures is { IfOk result (λ s. s ≡ saved_of self.now) }
+        ensures counts { IfOk result (λ s. IsMark s.wire) }
+    {
+        Ok(Saved {
+            wire: self.wire.mark(),
+            table: self.table.copy(alloc)?,
+            clock: self.clock,
+            version: self.version,
+            begun: self.begun,
+        })
+    }
+
+    fn restore(&mut self, saved: Saved)
+        requires within { saved.wire.count ≤ length self.old.wire.entries }
+        requires counts { IsMark saved.wire }
+        ensures { self.new ≡ restored saved self.old }
+    {
+        let Saved {
+            wire,
+            table,
+            clock,
+            version,
+            begun,
+        } = saved;
+        self.wire.rewind(wire);
+        self.table = table;
+        self.clock = clock;
+        self.version = version;
+        self.begun = begun;
     }
 
     // Carries out a command of a line.
@@ -70,7 +136,8 @@ impl Progress {
         command: Command,
     ) -> Result<(), Refused>
         requires { IsCommand self.old.version command }
-        ensures { Leaves result self.new (run records.now number command self.old) }
+        ensures is { Leaves result self.new (run records.now number command self.old) }
+        ensures onward { GoesOn self.old.wire self.new.wire }
     {
         match command {
             Command::Version(version) => {
@@ -91,7 +158,8 @@ impl Progress {
     #[tactic(auto, unfolding(crate::specs::Progress::frames_run))]
     fn frames(&mut self, records: &Records<'_>, from: u32, to: u32) -> Result<(), Refused>
         requires { from ≤ to }
-        ensures { Leaves result self.new (frames_run records.now from to self.old) }
+        ensures is { Leaves result self.new (frames_run records.now from to self.old) }
+        ensures onward { GoesOn self.old.wire self.new.wire }
     {
         if to as usize >= records.len() {
             return Err(Refused::Kind(ScriptKind::NoRecord));
@@ -102,7 +170,8 @@ impl Progress {
     #[tactic(auto, unfolding(crate::specs::Progress::each_run))]
     fn each(&mut self, records: &Records<'_>, from: u32, to: u32) -> Result<(), Refused>
         requires { from ≤ to }
-        ensures { Leaves result self.new (each_run records.now from to self.old) }
+        ensures is { Leaves result self.new (each_run records.now from to self.old) }
+        ensures onward { GoesOn self.old.wire self.new.wire }
     {
         if to as usize >= records.len() {
             return Err(Refused::Kind(ScriptKind::NoRecord));
@@ -112,7 +181,8 @@ impl Progress {
 
     #[tactic(auto, unfolding(crate::specs::Progress::time_run))]
     fn time(&mut self, t: u32) -> Result<(), Refused>
-        ensures { Leaves result self.new (time_run t self.old) }
+        ensures is { Leaves result self.new (time_run t self.old) }
+        ensures onward { GoesOn self.old.wire self.new.wire }
     {
         if t < self.clock {
             return Err(Refused::Kind(ScriptKind::Back));
@@ -125,7 +195,8 @@ impl Progress {
     #[tactic(auto, unfolding(crate::specs::Progress::tag_run))]
     fn tag(&mut self, number: u32, place: u16) -> Result<(), Refused>
         requires { place < places_of self.old.version }
-        ensures { Leaves result self.new (tag_run number place self.old) }
+        ensures is { Leaves result self.new (tag_run number place self.old) }
+        ensures onward { GoesOn self.old.wire self.new.wire }
     {
         let width = self.version.width();
         if self.table.has_tagged(place, width) {
@@ -137,7 +208,8 @@ impl Progress {
     #[tactic(auto, unfolding(crate::specs::Progress::move_run))]
     fn move_place(&mut self, place: u16, to: u32) -> Result<(), Refused>
         requires { place < places_of self.old.version }
-        ensures { Leaves result self.new (move_run place to self.old) }
+        ensures is { Leaves result self.new (move_run place to self.old) }
+        ensures onward { GoesOn self.old.wire self.new.wire }
     {
         let width = self.version.width();
         if !self.table.is_live(to) {
@@ -154,7 +226,8 @@ impl Progress {
 
     #[tactic(auto, unfolding(crate::specs::Progress::add_run))]
     fn add(&mut self, alloc: Global, number: u32, core: u32) -> Result<(), Refused>
-        ensures { Leaves result self.new (add_run number core self.old) }
+        ensures is { Leaves result self.new (add_run number core self.old) }
+        ensures onward { GoesOn self.old.wire self.new.wire }
     {
         if !self.table.has_core(core) {
             return Err(Refused::Kind(ScriptKind::NoCore));
@@ -178,7 +251,8 @@ impl Progress {
 
     #[tactic(auto, unfolding(crate::specs::Progress::revoke_run))]
     fn revoke(&mut self, alloc: Global, number: u32, core: u32) -> Result<(), Refused>
-        ensures { Leaves result self.new (revoke_run number core self.old) }
+        ensures is { Leaves result self.new (revoke_run number core self.old) }
+        ensures onward { GoesOn self.old.wire self.new.wire }
     {
         if !self.table.is_live(core) {
             return Err(Refused::Kind(ScriptKind::NoCore));
@@ -203,7 +277,8 @@ impl Progress {
     #[tactic(auto, unfolding(crate::specs::Progress::with_tag))]
     fn tag_group(&mut self, number: u32, group: u16) -> Result<(), Refused>
         requires { group < 512 }
-        ensures { Leaves result self.new (with_tag number group self.old) }
+        ensures is { Leaves result self.new (with_tag number group self.old) }
+        ensures onward { GoesOn self.old.wire self.new.wire }
     {
         self.wire.step(Entry::Tag {
             group: GroupId(group),
@@ -215,7 +290,8 @@ impl Progress {
     #[tactic(auto, unfolding(crate::specs::Progress::with_step))]
     fn move_group(&mut self, group: u16, to: CoreId) -> Result<(), Refused>
         requires { group < 512 }
-        ensures { Leaves result self.new (with_step to group self.old) }
+        ensures is { Leaves result self.new (with_step to group self.old) }
+        ensures onward { GoesOn self.old.wire self.new.wire }
     {
         self.wire.step(Entry::Move {
             group: GroupId(group),
@@ -229,10 +305,11 @@ impl Progress {
     #[tactic(auto, using(crate::proofs::TableLaws::group_steps))]
     fn tag_groups(&mut self, number: u32, place: u16, width: u16) -> Result<(), Refused>
         requires { place + 128 * width < 640 }
-        ensures { Leaves result self.new (with_tags number (groups_from place width) self.old) }
+        ensures is { Leaves result self.new (with_tags number (groups_from place width) self.old) }
+        ensures onward { GoesOn self.old.wire self.new.wire }
     {
         for k in 0..width {
-            self.tag_group(number, place + 128 * k)?;
+            self.tag_group(number, place + CLASSES * k)?;
         }
         Ok(())
     }
@@ -241,10 +318,11 @@ impl Progress {
     #[tactic(auto, using(crate::proofs::TableLaws::group_steps))]
     fn move_groups(&mut self, place: u16, width: u16, to: CoreId) -> Result<(), Refused>
         requires { place + 128 * width < 640 }
-        ensures { Leaves result self.new (with_steps to (groups_from place width) self.old) }
+        ensures is { Leaves result self.new (with_steps to (groups_from place width) self.old) }
+        ensures onward { GoesOn self.old.wire self.new.wire }
     {
         for k in 0..width {
-            self.move_group(place + 128 * k, to)?;
+            self.move_group(place + CLASSES * k, to)?;
         }
         Ok(())
     }
@@ -253,7 +331,8 @@ impl Progress {
     #[tactic(auto, unfolding(crate::specs::Progress::with_planned))]
     fn shift_group(&mut self, number: u32, group: u16, to: CoreId) -> Result<(), Refused>
         requires { group < 512 }
-        ensures { Leaves result self.new (with_planned number to group self.old) }
+        ensures is { Leaves result self.new (with_planned number to group self.old) }
+        ensures onward { GoesOn self.old.wire self.new.wire }
     {
         self.tag_group(number, group)?;
         self.move_group(group, to)
@@ -269,10 +348,11 @@ impl Progress {
         to: CoreId,
     ) -> Result<(), Refused>
         requires { place + 128 * width < 640 }
-        ensures { Leaves result self.new (with_all_planned number to (groups_from place width) self.old) }
+        ensures is { Leaves result self.new (with_all_planned number to (groups_from place width) self.old) }
+        ensures onward { GoesOn self.old.wire self.new.wire }
     {
         for k in 0..width {
-            self.shift_group(number, place + 128 * k, to)?;
+            self.shift_group(number, place + CLASSES * k, to)?;
         }
         Ok(())
     }
@@ -280,7 +360,8 @@ impl Progress {
     // Carries out a plan.
     fn carry_out(&mut self, number: u32, width: u16, plan: &[PlanMove]) -> Result<(), Refused>
         requires { All (λ m. m.group.0 + 128 * width < 640) plan.now }
-        ensures { Leaves result self.new (with_plan number width plan.now self.old) }
+        ensures is { Leaves result self.new (with_plan number width plan.now self.old) }
+        ensures onward { GoesOn self.old.wire self.new.wire }
     {
         for one in plan {
             self.shift_groups(number, one.group.0, width, one.to)?;

@@ -2,10 +2,14 @@
 ghost use Rattle.std.specs.Prelude.{◌≡◌, ◌≤◌, IfOk, vec_len};
 ghost use Rattle.ix_wire.specs.Table.{earlier, first_live, no_tags, opening_cores};
 
-use ix_base::{CoreId, GroupId, NoMemory};
+use crate::command::CLASSES;
+use ix_base::{CoreId, FLOW_GROUPS, NoMemory};
 use ix_cp::{Cores, PlanMove, plan_add, plan_revoke};
 use std::alloc::Global;
 use std::marker::Model;
+
+/// The flow groups, as the numbers of a script count them.
+const GROUPS: u16 = FLOW_GROUPS as u16;
 
 /// The core and the tag of each of the 512 flow groups, and the cores. A tag is the number of the line that set it.
 #[derive(Drop)]
@@ -41,12 +45,23 @@ impl Table {
         ensures { IfOk result (λ t. t ≡ opening_table cores live) }
     {
         Ok(Table {
-            at: opening_cores(alloc, live, 512)?,
-            tags: no_tags(alloc, 512)?,
+            at: opening_cores(alloc, live, GROUPS)?,
+            tags: no_tags(alloc, GROUPS)?,
             cores: Cores {
                 live: first_live(live),
                 count: cores,
             },
+        })
+    }
+
+    /// A second table that says the same.
+    pub fn copy(&self, alloc: Global) -> Result<Table, NoMemory>
+        ensures { IfOk result (λ t. t ≡ self.now) }
+    {
+        Ok(Table {
+            at: Vec::from_slice(alloc, &self.at)?,
+            tags: Vec::from_slice(alloc, &self.tags)?,
+            cores: self.cores,
         })
     }
 
@@ -97,7 +112,7 @@ impl Table {
         ensures { result ≡ list_any (is_tagged self.now) (groups_from place width) }
     {
         for k in 0..width {
-            if self.is_tagged(place + 128 * k) {
+            if self.is_tagged(place + CLASSES * k) {
                 return true;
             }
         }
@@ -111,7 +126,7 @@ impl Table {
         ensures { result ≡ list_any (is_untagged self.now) (groups_from place width) }
     {
         for k in 0..width {
-            if !self.is_tagged(place + 128 * k) {
+            if !self.is_tagged(place + CLASSES * k) {
                 return true;
             }
         }
@@ -125,7 +140,7 @@ impl Table {
         ensures { result ≡ list_any (is_on self.now core) (groups_from place width) }
     {
         for k in 0..width {
-            if self.is_on(core, place + 128 * k) {
+            if self.is_on(core, place + CLASSES * k) {
                 return true;
             }
         }
@@ -138,7 +153,7 @@ impl Table {
         ensures { result ≡ has_tagged_on self.now core 512 }
     {
         let mut found = false;
-        for group in 0..512u16 {
+        for group in 0..GROUPS {
             found = found || self.is_on(core, group) && self.is_tagged(group);
         }
         found
@@ -259,7 +274,7 @@ fn opening_cores(alloc: Global, live: u8, groups: u16) -> Result<Vec<CoreId>, No
 {
     let mut at = Vec::new(alloc);
     for group in 0..groups {
-        at.push(CoreId((group % 128 % live as u16) as u8))?;
+        at.push(CoreId((group % CLASSES % live as u16) as u8))?;
     }
     Ok(at)
 }

@@ -27,6 +27,16 @@ pub struct Wire {
     moves: u64,
 }
 
+/// A place in the entries, to which they can be taken back: how many there are, and the counts there.
+#[derive(Clone, Copy, Debug, PartialEq, Eq)]
+pub struct Mark {
+    pub count: usize,
+    pub paced: u64,
+    pub controls: u64,
+    pub frames: u64,
+    pub moves: u64,
+}
+
 impl Model for Wire {
     ghost use Rattle.std.specs.Prelude.{◌≤◌, vec_len};
     ghost use Rattle.ix_wire.specs.Wire.{Written};
@@ -39,7 +49,8 @@ impl Model for Wire {
 }
 
 impl Wire {
-    ghost use Rattle.std.specs.Prelude.{◌≡◌, ◌<◌, ◌^◌, All, Ok};
+    ghost use Rattle.std.specs.Prelude.{◌≡◌, ◌<◌, ◌≤◌, ◌^◌, All, Ok, length};
+    ghost use Rattle.ix_wire.specs.Saved.{GoesOn, IsMark, mark_of, rewound};
     ghost use Rattle.ix_wire.specs.Chain.{Leaves};
     ghost use Rattle.ix_wire.specs.Wire.{settled, start, with_all_each, with_control, with_each, with_frame, with_frames, with_move};
 
@@ -65,9 +76,37 @@ impl Wire {
         entries
     }
 
+    /// This place.
+    pub fn mark(&self) -> Mark
+        ensures is { result ≡ mark_of self.now }
+        ensures counts { IsMark result }
+    {
+        Mark {
+            count: self.entries.len(),
+            paced: self.paced,
+            controls: self.controls,
+            frames: self.frames,
+            moves: self.moves,
+        }
+    }
+
+    /// Takes the entries back to a place.
+    pub fn rewind(&mut self, mark: Mark)
+        requires within { mark.count ≤ length self.old.entries }
+        requires counts { IsMark mark }
+        ensures { self.new ≡ rewound mark self.old }
+    {
+        self.entries.truncate(mark.count);
+        self.paced = mark.paced;
+        self.controls = mark.controls;
+        self.frames = mark.frames;
+        self.moves = mark.moves;
+    }
+
     #[tactic(auto, unfolding(crate::specs::Wire::settled))]
     pub fn settle(&mut self) -> Result<(), Refused>
-        ensures { Leaves result self.new (Ok (settled self.old)) }
+        ensures is { Leaves result self.new (Ok (settled self.old)) }
+        ensures onward { GoesOn self.old self.new }
     {
         if self.entries.push(Entry::Settle).is_err() {
             return Err(Refused::NoMemory);
@@ -80,7 +119,8 @@ impl Wire {
     /// A frame of a record.
     #[tactic(auto, unfolding(crate::specs::Wire::with_frame))]
     fn frame(&mut self, rec: u32) -> Result<(), Refused>
-        ensures { Leaves result self.new (with_frame rec self.old) }
+        ensures is { Leaves result self.new (with_frame rec self.old) }
+        ensures onward { GoesOn self.old self.new }
     {
         if self.frames == MAX_FRAMES {
             return Err(Refused::Kind(ScriptKind::TooMany));
@@ -99,7 +139,8 @@ impl Wire {
     /// A time, a tag or a move.
     #[tactic(auto, unfolding(crate::specs::Wire::with_control))]
     pub fn control(&mut self, entry: Entry) -> Result<(), Refused>
-        ensures { Leaves result self.new (Ok (with_control entry self.old)) }
+        ensures is { Leaves result self.new (Ok (with_control entry self.old)) }
+        ensures onward { GoesOn self.old self.new }
     {
         if self.entries.push(entry).is_err() {
             return Err(Refused::NoMemory);
@@ -114,7 +155,8 @@ impl Wire {
     /// A tag or a move.
     #[tactic(auto, unfolding(crate::specs::Wire::with_move))]
     pub fn step(&mut self, entry: Entry) -> Result<(), Refused>
-        ensures { Leaves result self.new (with_move entry self.old) }
+        ensures is { Leaves result self.new (with_move entry self.old) }
+        ensures onward { GoesOn self.old self.new }
     {
         if self.moves == MAX_MOVES {
             return Err(Refused::Kind(ScriptKind::TooMany));
@@ -126,7 +168,8 @@ impl Wire {
     /// The frames of these records.
     pub fn frames(&mut self, records: &[usize]) -> Result<(), Refused>
         requires { All (λ rec. rec < 2 ^ 32) records.now }
-        ensures { Leaves result self.new (with_frames records.now self.old) }
+        ensures is { Leaves result self.new (with_frames records.now self.old) }
+        ensures onward { GoesOn self.old self.new }
     {
         for rec in records {
             self.frame(*rec as u32)?;
@@ -136,7 +179,8 @@ impl Wire {
 
     #[tactic(auto, unfolding(crate::specs::Wire::with_each))]
     fn frame_and_settle(&mut self, rec: u32) -> Result<(), Refused>
-        ensures { Leaves result self.new (with_each rec self.old) }
+        ensures is { Leaves result self.new (with_each rec self.old) }
+        ensures onward { GoesOn self.old self.new }
     {
         self.frame(rec)?;
         self.settle()
@@ -145,7 +189,8 @@ impl Wire {
     /// The frames of these records, with a settle behind each.
     pub fn each(&mut self, records: &[usize]) -> Result<(), Refused>
         requires { All (λ rec. rec < 2 ^ 32) records.now }
-        ensures { Leaves result self.new (with_all_each records.now self.old) }
+        ensures is { Leaves result self.new (with_all_each records.now self.old) }
+        ensures onward { GoesOn self.old self.new }
     {
         for rec in records {
             self.frame_and_settle(*rec as u32)?;

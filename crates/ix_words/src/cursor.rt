@@ -60,7 +60,7 @@ impl<'a> Parts<'a> {
     }
 
     /// Whether no part is left.
-    #[tactic(auto, using(crate::proofs::FieldLaws::none_ended))]
+    #[tactic(auto, using(crate::specs::FieldLaws::none_ended))]
     pub fn end(&self) -> Option<()>
         ensures { result ≡ ended self.now }
     {
@@ -184,7 +184,7 @@ impl<'a> Parts<'a> {
     }
 
     /// Two decimal numbers up to their highest, with a point between.
-    pub fn place(&mut self, high: u64, low: u64) -> Option<(u64, u64)>
+    pub fn next_place(&mut self, high: u64, low: u64) -> Option<(u64, u64)>
         requires high { 9 ≤ high }
         requires low { 9 ≤ low }
         ensures is { with_rest self.new result ≡ field_of (place_of high low) self.old }

@@ -44,6 +44,8 @@ pub fn fresh<T: Drop>(
     requires { IsRing put.old take.old }
     ensures pair { IsRing put.new take.new }
     ensures places { places put.new ≡ places put.old }
+    ensures known { IsPrefix (known take.old) (known take.new) }
+    ensures room { spare put.old ≤ spare put.new }
     ensures ok { OnOk result ((put_list put.old ≡ taken take.old ++ put_list put.new) × (taken take.new ≡ []) × (known take.new ≡ put_list put.new) × (spare put.new + length (known take.new) ≡ places put.new)) }
     ensures err { OnErr result ((put_list put.new ≡ put_list put.old) × (taken take.new ≡ taken take.old) × (put_list put.new ≡ taken take.new ++ known take.new) × (spare put.old ≤ spare put.new)) }
 {

@@ -1,16 +1,20 @@
-use Rattle.std.proofs.Common.{◌≡◌, ◌<◌, true, length, arith, get_or}
-use Rattle.std.specs.Prelude.{is_some}
+use Rattle.std.proofs.Common.{◌≡◌, ℕ, List, sym, Option, Some, None}
+use Rattle.std.specs.Prelude.{IfNone, IfSome, position}
 use Rattle.ix_desk.specs.Views.{CutPiece}
-use Rattle.ix_desk.proofs.Lends.{unit-found}
+use Rattle.ix_desk.specs.Groups.{is_seated, HasNoUnit, HasUnitAt}
+use Rattle.ix_desk.proofs.Cuts.{no-unit, unit-at}
 use Rattle.ix_desk.proofs.group.place_of_unit.Goals as goal
 
-pub returns-then-has_unit-clause-some : goal.returns-then-has_unit-clause-some
-returns-then-has_unit-clause-some g c =
-    let x : CutPiece g.row.U.Denot g.row.I.Denot = c.index-cut-place.result in
-    let within : c.loop-place.place < length c.args.cut.now = omega arith in
-    let is = c.index-cut-place.is in
-    let v = c.here.view_is in
-    let read : x ≡ get_or c.args.cut.now c.loop-place.place x = cc in
-    let e = c.has_unit.ensures in
-    let test : is_some x.piece.unit ≡ true = cc in
-    unit-found c.args.cut.now c.loop-place.place x within read test c.loop-place.invariant
+some-unit : {U I : Type 0} (cs : List (CutPiece U I)) (o : Option ℕ) → o ≡ position is_seated cs → IfSome o (HasUnitAt cs)
+some-unit cs None e = tt
+some-unit cs (Some i) e = unit-at cs i (sym e)
+
+none-unit : {U I : Type 0} (cs : List (CutPiece U I)) (o : Option ℕ) → o ≡ position is_seated cs → IfNone o (HasNoUnit cs)
+none-unit cs None e = no-unit cs (sym e)
+none-unit cs (Some i) e = tt
+
+pub returns-clause-some : goal.returns-clause-some
+returns-clause-some g c = some-unit c.args.cut.now c.place_of_seated.result c.place_of_seated.ensures
+
+pub returns-clause-none : goal.returns-clause-none
+returns-clause-none g c = none-unit c.args.cut.now c.place_of_seated.result c.place_of_seated.ensures

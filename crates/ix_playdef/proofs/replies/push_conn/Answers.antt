@@ -3,9 +3,9 @@ use Rattle.ix_groupdef.specs.declared.types.JournalEntry.{JournalEntry}
 use Rattle.ix_groupdef.specs.Journal.{seen_entry}
 use Rattle.ix_groupdef.specs.Sent.{CanBeWritten}
 use Rattle.ix_playdef.specs.Placed.{placed}
-use Rattle.ix_playdef.specs.Replies.{input_replies}
+use Rattle.ix_playdef.specs.Replies.{by_opening, input_replies}
 use Rattle.ix_playdef.specs.declared.order.Reply.{Reply}
-use Rattle.ix_playdef.proofs.Placed.{placed-one}
+use Rattle.ix_playdef.specs.Placed.{placed-one}
 use Rattle.ix_playdef.proofs.replies.push_conn.Goals as goal
 
 pub push_input-requires : goal.push_input-requires
@@ -18,7 +18,7 @@ pub loop-i-preserved : goal.loop-i-preserved
 loop-i-preserved c =
     let e : JournalEntry = seen_entry c.entry-view.result in
     let lt : c.loop-i.i < length c.args.conn.now.journal = omega (arith, c.loop-i-test.true, c.len-i-end.ensures) in
-    let f : ℕ → JournalEntry → List Reply = input_replies c.args.local.now c.args.place.group.0 c.args.place.opening c.as_slice-ends.result.now in
+    let f : ℕ → JournalEntry → List Reply = input_replies by_opening c.args.local.now c.args.place.group.0 c.args.place.opening c.as_slice-ends.result.now in
     record {
       replies =
           ap (λ rs. rs ++ placed f (c.loop-i.i + 1) (drop (c.loop-i.i + 1) c.args.conn.now.journal)) c.in_ok-push_input.ensures.replies

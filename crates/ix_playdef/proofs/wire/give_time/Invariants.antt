@@ -1,5 +1,5 @@
 use Rattle.ix_playdef.proofs.Lists.{TimesUpTo}
 use Rattle.ix_playdef.proofs.wire.give_time.Given as goal
 
-abbrev pub invariant-loop-i : goal.invariant-loop-i
-invariant-loop-i l = TimesUpTo l.w.0 l.t l.i l.fn.lists l.lists
+abbrev pub invariant-loop-list : goal.invariant-loop-list
+invariant-loop-list l = TimesUpTo l.w.0 l.t l.list-index l.fn.lists l.lists

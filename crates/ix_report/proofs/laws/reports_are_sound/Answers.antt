@@ -1,4 +1,4 @@
 use Rattle.ix_report.proofs.laws.reports_are_sound.Goals as goal
 
 pub returns : goal.returns
-returns c = λ conf frames entries r bytes fits group d lt. c.records_are_sound.ensures.records conf frames entries _ bytes fits.groups group d lt
+returns c = λ conf frames entries places r bytes fits group d lt. c.records_are_sound.ensures.records conf frames entries _ bytes fits.groups group d lt

@@ -1,6 +1,7 @@
-use Rattle.std.proofs.Common.{rules}
+use Rattle.std.proofs.Common.{refl, rules}
 use Rattle.ix_conf.specs.Settings.{settings_of}
 use Rattle.ix_playdef.specs.Own.{local_of}
+use Rattle.ix_playdef.specs.Replies.{by_opening}
 use Rattle.ix_report.proofs.NamedLaws.{named-once}
 use Rattle.ix_report.proofs.playing.play.Goals as goal
 
@@ -9,10 +10,11 @@ returns-clause-fits c =
     record {
       groups = search rules;
       connects = search rules;
+      free = record { apart = λ entry group phase a b same. same; connects = λ entry group opening. refl; taken = λ entry group opening. refl };
       replies = search rules;
       order = search rules;
       numbered = search rules;
-      once = named-once (local_of (settings_of c.args.conf.now)) _ (search rules) (search rules) (search rules);
+      once = named-once by_opening (local_of (settings_of c.args.conf.now)) _ (search rules) (search rules) (search rules);
       strays = search rules;
       rising = search rules;
       drops = search rules;

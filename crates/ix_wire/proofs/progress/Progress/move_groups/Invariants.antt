@@ -1,7 +1,11 @@
 use Rattle.std.proofs.Common.{◌≡◌, ◌+◌, ◌*◌, ◌-◌}
 use Rattle.ix_wire.specs.Table.{groups_from}
 use Rattle.ix_wire.specs.Progress.{with_steps}
+use Rattle.ix_wire.specs.Saved.{GoesOn}
 use Rattle.ix_wire.proofs.progress.Progress.move_groups.Given as goal
 
 abbrev pub invariant-loop-k : goal.invariant-loop-k
-invariant-loop-k l = with_steps l.to (groups_from (l.place + 128 * l.k) (l.width - l.k)) l.self ≡ with_steps l.to (groups_from l.place l.width) l.fn.self
+invariant-loop-k l = record {
+  is : with_steps l.to (groups_from (l.place + 128 * l.k) (l.width - l.k)) l.self ≡ with_steps l.to (groups_from l.place l.width) l.fn.self;
+  onward : GoesOn l.fn.self.wire l.self.wire;
+}

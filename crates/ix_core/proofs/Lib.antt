@@ -1,0 +1,11 @@
+pub mod Conserved
+pub mod Deals
+pub mod Idling
+pub mod Landings
+pub mod Leavings
+pub mod LinkLaws
+pub mod Returns
+pub mod Turns
+pub mod Units
+pub mod Weighs
+pub mod Weights

@@ -1,0 +1,14 @@
+pub mod Connecting
+pub mod Cores
+pub mod Dealing
+pub mod Items
+pub mod Landing
+pub mod Laws
+pub mod LinkRuns
+pub mod Links
+pub mod Lists
+pub mod Posting
+pub mod Runs
+pub mod Taking
+pub mod Turned
+pub mod Weights
