@@ -1,0 +1,17 @@
+pub mod Card
+pub mod Behind
+pub mod Cutting
+pub mod Connects
+pub mod Journals
+pub mod Replies
+pub mod Owners
+pub mod Fits
+pub mod Read
+pub mod Sound
+pub mod Wires
+pub mod Alone
+pub mod Decided
+pub mod OneCore
+pub mod Readings
+pub mod Stepping
+pub mod Worked
