@@ -2,7 +2,7 @@
 ghost use Rattle.std.specs.Prelude.{◌≤◌};
 
 use ix_base::{List, NoMemory, SegHead, WireNo};
-use ix_tcpdef::{BEHIND_HEADER, Output, Outputs, Told};
+use ix_tcpdef::{BEHIND_HEADER, Output, Outputs, Piece, Told};
 use ix_tcpin::{HeldUse, Take, Verdict};
 use std::alloc::Global;
 
@@ -17,6 +17,14 @@ pub(crate) enum Given {
 #[derive(Clone, Copy)]
 pub(crate) struct Waiting {
     pub(crate) w: WireNo,
+    pub(crate) len: u16,
+}
+
+/// A part of a body that is delivered: the wire number of its segment, its first place in the body, and how many bytes.
+#[derive(Clone, Copy)]
+pub(crate) struct Part {
+    pub(crate) w: WireNo,
+    pub(crate) from: u16,
     pub(crate) len: u16,
 }
 
@@ -37,42 +45,43 @@ fn push_told(verdict: &Verdict, ends: bool, given: &mut List<Given>) -> Result<(
     Ok(())
 }
 
-fn push_part(w: WireNo, from: u16, len: u16, given: &mut List<Given>) -> Result<(), NoMemory> {
-    let from = place_of(w).wrapping_add(from);
-    given.push(Given::Told(Told::Recv { w, from, len }))?;
-    Ok(())
-}
-
-/// The part of the body, and those of held segments.
-fn push_parts(
-    verdict: &Verdict,
-    w: WireNo,
-    held: &List<Waiting>,
-    given: &mut List<Given>,
-) -> Result<(), NoMemory> {
-    if let Take::Deliver { from, to } = verdict.take {
-        push_part(w, from, to.wrapping_sub(from), given)?;
-    }
-    for (place, held_use) in verdict.held.as_slice().iter().enumerate() {
-        if let (HeldUse::Deliver { from }, Some(waiting)) = (*held_use, held.get(place)) {
-            push_part(waiting.w, from, waiting.len.wrapping_sub(from), given)?;
-        }
-    }
-    Ok(())
-}
-
-/// What a verdict on the segment with this wire number says. held: what was held; told: whether parts are told.
-pub(crate) fn given_by(
+/// The parts that a verdict on the segment with this wire number delivers: that of its body, and those of what was held.
+pub(crate) fn parts_of(
     alloc: Global,
     verdict: &Verdict,
     w: WireNo,
     held: &List<Waiting>,
+) -> Result<List<Part>, NoMemory> {
+    let mut parts = List::new(alloc);
+    if let Take::Deliver { from, to } = verdict.take {
+        let len = to.wrapping_sub(from);
+        parts.push(Part { w, from, len })?;
+    }
+    for (place, held_use) in verdict.held.as_slice().iter().enumerate() {
+        if let (HeldUse::Deliver { from }, Some(waiting)) = (*held_use, held.get(place)) {
+            let len = waiting.len.wrapping_sub(from);
+            let w = waiting.w;
+            parts.push(Part { w, from, len })?;
+        }
+    }
+    Ok(parts)
+}
+
+/// What a verdict says beside these parts, which are told or not.
+pub(crate) fn given_by(
+    alloc: Global,
+    verdict: &Verdict,
+    parts: &List<Part>,
     told: bool,
 ) -> Result<List<Given>, NoMemory> {
     let mut given = List::new(alloc);
     push_told(verdict, false, &mut given)?;
     if told {
-        push_parts(verdict, w, held, &mut given)?;
+        for part in parts.as_slice() {
+            let (w, len) = (part.w, part.len);
+            let from = place_of(w).wrapping_add(part.from);
+            given.push(Given::Told(Told::Recv { w, from, len }))?;
+        }
     }
     if let Some(head) = verdict.reply {
         given.push(Given::Frame(head))?;
@@ -87,6 +96,33 @@ fn is_given(output: &Output, given: Given) -> bool {
         Output::Told(told) => given == Given::Told(*told),
         Output::Ret(_) => false,
     }
+}
+
+/// Whether a piece of the connection is this part, where each body is the beginning of this text.
+fn is_part(piece: &Piece, part: Part, text: &[u8]) -> bool {
+    let from = usize::from(part.from);
+    let to = from.wrapping_add(usize::from(part.len));
+    let is_there = piece.w == part.w && piece.from == place_of(part.w).wrapping_add(part.from);
+    match text.get(from..to) {
+        Some(bytes) => is_there && piece.bytes.as_slice() == bytes,
+        None => false,
+    }
+}
+
+/// Whether the pieces behind so many are these parts.
+pub(crate) fn are_parts(
+    pieces: &List<Piece>,
+    before: usize,
+    parts: &List<Part>,
+    text: &[u8],
+) -> bool {
+    for (place, part) in parts.as_slice().iter().enumerate() {
+        match pieces.get(before.wrapping_add(place)) {
+            Some(piece) if is_part(piece, *part, text) => {}
+            _ => return false,
+        }
+    }
+    pieces.len() == before.wrapping_add(parts.len())
 }
 
 pub(crate) fn are_given(outputs: &Outputs, given: &List<Given>) -> bool {

@@ -3,8 +3,8 @@ ghost use Rattle.std.specs.Prelude.{◌≡◌, ◌≤◌, IfOk, OnOk};
 ghost use Rattle.ix_tcpdef.specs.Sound.{IsInRange, IsStanding, IsWritten};
 
 use crate::draw::Draw;
-use crate::given::{Waiting, are_given, given_by, place_of};
-use crate::twins::{FLOW, ISS, MAC, Peer, TEXT, Twins, fits};
+use crate::given::{Part, Waiting, are_given, are_parts, given_by, parts_of, place_of};
+use crate::twins::{FLOW, ISS, MAC, Peer, Twins, fits, text};
 use ix_base::{ACK, Bytes, FIN, List, NoMemory, PSH, RST, Ret, SYN, Seg, SegHead, WireNo};
 use ix_tcpdef::{Ask, Cfg, Input, Output, Outputs, State, Tcb};
 use ix_tcpin::{HeldUse, Take, Verdict, arrive};
@@ -37,6 +37,16 @@ fn bit_of(state: State) -> u16 {
         State::TimeWait => 0x200,
         State::Closed => 0x400,
     }
+}
+
+/// What a connection is before a segment: what it holds, how many pieces it was delivered, whether it was accepted, and whether it has
+/// ended.
+#[derive(Drop)]
+struct Before {
+    held: List<Waiting>,
+    pieces: usize,
+    accepted: bool,
+    closed: bool,
 }
 
 // ## What the peer says
@@ -117,7 +127,7 @@ fn segment(alloc: Global, w: WireNo, head: SegHead) -> Result<Input, NoMemory>
     requires place { head.at ≤ 1000 }
     ensures { IfOk result IsWritten }
 {
-    let body = Bytes::from_slice(alloc, &TEXT[..usize::from(head.len)])?;
+    let body = Bytes::from_slice(alloc, &text()[..usize::from(head.len)])?;
     Ok(Input::Segment {
         w,
         seg: Seg { head, body },
@@ -164,6 +174,43 @@ impl Twins {
         place == self.tcb.held.len() && self.world.held(place).is_none()
     }
 
+    /// Whether the pieces behind so many are these parts.
+    fn has_parts(&self, before: usize, parts: &List<Part>) -> bool {
+        are_parts(&self.world.connection().pieces, before, parts, &text())
+    }
+
+    /// What the connection is before a segment.
+    fn look(&self, alloc: Global) -> Result<Before, NoMemory> {
+        Ok(Before {
+            held: self.waiting(alloc)?,
+            pieces: self.world.connection().pieces.len(),
+            accepted: self.tcb.accepted,
+            closed: self.tcb.state == State::Closed,
+        })
+    }
+
+    /// Whether the connection gave, was delivered and keeps what a verdict on the segment with this wire number says, and the numbers are
+    /// those of it.
+    fn follows(
+        &self,
+        alloc: Global,
+        before: &Before,
+        w: WireNo,
+        outputs: &Outputs,
+        verdict: &Verdict,
+    ) -> Result<bool, NoMemory> {
+        let parts = parts_of(alloc, verdict, w, &before.held)?;
+        let given = given_by(alloc, verdict, &parts, before.accepted)?;
+        let ended = !before.closed && self.tcb.state == State::Closed;
+        Ok(
+            are_given(outputs, &given)
+                && self.has_parts(before.pieces, &parts)
+                && self.keeps(verdict, &before.held, w)
+                && verdict.ended == ended
+                && self.agree(),
+        )
+    }
+
     /// A segment of the peer arrives at both.
     fn meet(&mut self, alloc: Global, cfg: &Cfg, w: WireNo, head: SegHead) -> Result<bool, NoMemory>
         requires cfg { IsInRange cfg.now }
@@ -172,22 +219,14 @@ impl Twins {
         requires place { head.at ≤ 1000 }
         ensures { OnOk result (IsStanding cfg.now self.new.world) }
     {
-        let before = self.waiting(alloc)?;
-        let told = self.tcb.accepted;
-        let was_closed = self.tcb.state == State::Closed;
+        let before = self.look(alloc)?;
         let outputs = self.take(alloc, cfg, &segment(alloc, w, head)?)?;
         if !fits(&self.tcb) {
             return Ok(false);
         }
         let verdict = arrive(cfg, &mut self.tcb, &head, self.now);
-        let given = given_by(alloc, &verdict, w, &before, told)?;
-        let ended = !was_closed && self.tcb.state == State::Closed;
-        Ok(
-            are_given(&outputs, &given)
-                && self.keeps(&verdict, &before, w)
-                && verdict.ended == ended
-                && self.agree(),
-        )
+        let same = self.follows(alloc, &before, w, &outputs, &verdict)?;
+        Ok(same)
     }
 
     // ## Calls, which the numbers follow

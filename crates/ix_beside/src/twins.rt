@@ -6,9 +6,10 @@ ghost use Rattle.ix_tcpdef.specs.Sound.{FitsPeer, IsInRange, IsStanding, IsWritt
 use crate::draw::Draw;
 use ix_base::{ACK, Bytes, Flow, NoMemory, Ret, SYN, Seg, SegHead, WireNo};
 use ix_tcpdef::{
-    Ask, BEHIND_HEADER, Cfg, Input, Output, Outputs, State, Tcb, World1, step_plain, unopened,
+    Ask, BEHIND_HEADER, Cfg, Connection, HeldHead, HeldSegment, Input, Output, Outputs, State, Tcb,
+    World1, step_plain, unopened,
 };
-use ix_tcpout::{Outs, expire, flush};
+use ix_tcpout::{OutSeg, Outs, expire, flush};
 use std::alloc::Global;
 
 pub(crate) const FLOW: Flow = Flow {
@@ -24,7 +25,14 @@ pub(crate) const ISS: u32 = 0xffff_fe00;
 
 const IRS: u32 = 0x8000_0000;
 
-pub(crate) const TEXT: [u8; 1024] = [b'x'; 1024];
+/// What both sides say, each time from its beginning on. A byte differs from those near it.
+pub(crate) fn text() -> [u8; 1024] {
+    let mut text = [0; 1024];
+    for (place, byte) in text.iter_mut().enumerate() {
+        *byte = (place % 251) as u8;
+    }
+    text
+}
 
 /// The peer's window and its maximum segment size.
 #[derive(Clone, Copy)]
@@ -112,13 +120,26 @@ fn is_due(deadline: Option<u64>, now: u64) -> bool
     }
 }
 
+/// Whether a body is the range of the send queue that a segment is to carry, byte for byte.
+fn is_range(connection: &Connection, entry: &OutSeg, body: &[u8]) -> bool {
+    if entry.from == entry.to {
+        return body.is_empty();
+    }
+    let queue = connection.una.saturating_sub(1) as usize;
+    let from = queue.wrapping_add(entry.from as usize);
+    let to = queue.wrapping_add(entry.to as usize);
+    match connection.sent.as_slice().get(from..to) {
+        Some(bytes) => bytes == body,
+        None => false,
+    }
+}
+
 /// Whether an output of the plain step is what the call on numbers gave in its place.
-fn is_same(output: &Output, place: usize, outs: &Outs) -> bool {
+fn is_same(output: &Output, place: usize, outs: &Outs, connection: &Connection) -> bool {
     match output {
         Output::Frame(seg) => match outs.entries.get(place) {
             Some(entry) => {
-                let range = entry.to.wrapping_sub(entry.from);
-                seg.head == entry.head && seg.body.len() == range as usize
+                seg.head == entry.head && is_range(connection, entry, seg.body.as_slice())
             }
             None => false,
         },
@@ -127,9 +148,9 @@ fn is_same(output: &Output, place: usize, outs: &Outs) -> bool {
     }
 }
 
-fn are_same(outputs: &Outputs, outs: &Outs) -> bool {
+fn are_same(outputs: &Outputs, outs: &Outs, connection: &Connection) -> bool {
     for (place, output) in outputs.as_slice().iter().enumerate() {
-        if !is_same(output, place, outs) {
+        if !is_same(output, place, outs, connection) {
             return false;
         }
     }
@@ -139,6 +160,69 @@ fn are_same(outputs: &Outputs, outs: &Outs) -> bool {
 
 fn number(start: u32, position: u64) -> u32 {
     start.wrapping_add((position % 0x1_0000_0000) as u32)
+}
+
+/// How many bytes of the send queue are not acknowledged.
+fn queued(w: &Connection) -> usize {
+    w.sent
+        .len()
+        .saturating_sub(w.una.saturating_sub(1) as usize)
+}
+
+fn same_ends(w: &Connection, t: &Tcb) -> bool {
+    w.flow == t.flow && w.peer_mac == t.peer_mac && w.state == t.state && w.mss == t.mss
+}
+
+fn same_positions(w: &Connection, t: &Tcb) -> bool {
+    w.iss == t.iss
+        && w.irs == t.irs
+        && number(w.iss, w.una) == t.una
+        && number(w.iss, w.nxt) == t.nxt
+        && number(w.irs, w.rcv) == t.rcv_nxt
+        && queued(w) == t.queued as usize
+}
+
+fn same_windows(w: &Connection, t: &Tcb) -> bool {
+    w.wnd == t.wnd
+        && w.wl1 == t.wl1
+        && w.wl2 == t.wl2
+        && w.unread == t.unread
+        && w.cwnd == t.cwnd
+        && w.ssthresh == t.ssthresh
+}
+
+fn same_losses(w: &Connection, t: &Tcb) -> bool {
+    w.deadline == t.deadline
+        && w.expiries == t.expiries
+        && w.dups == t.dups
+        && w.recovering == t.recovering
+        && w.resend == t.resend
+}
+
+fn same_marks(w: &Connection, t: &Tcb) -> bool {
+    w.fin_wanted == t.fin_wanted
+        && w.fin_sent == t.fin_sent
+        && w.wants == t.wants
+        && w.ack_owed == t.ack_owed
+        && w.knocked == t.knocked
+        && w.accepted == t.accepted
+        && w.shut == t.shut
+}
+
+fn is_held(segment: &HeldSegment, head: HeldHead, irs: u32) -> bool {
+    number(irs, segment.at) == head.at
+        && segment.bytes.len() == usize::from(head.len)
+        && segment.fin == head.fin
+}
+
+fn same_held(w: &Connection, t: &Tcb) -> bool {
+    for (place, head) in t.held.as_slice().iter().enumerate() {
+        match w.held.get(place) {
+            Some(segment) if is_held(segment, *head, w.irs) => {}
+            _ => return false,
+        }
+    }
+    w.held.len() == t.held.len()
 }
 
 impl Twins {
@@ -193,16 +277,15 @@ impl Twins {
         Ok(())
     }
 
-    /// Whether the numbers are those of the connection.
+    /// Whether the numbers are those of the connection, every one.
     pub(crate) fn agree(&self) -> bool {
-        let left = self.world.left();
-        left.state == self.tcb.state
-            && number(ISS, left.una) == self.tcb.una
-            && number(ISS, left.nxt) == self.tcb.nxt
-            && number(self.tcb.irs, left.rcv) == self.tcb.rcv_nxt
-            && left.cwnd == self.tcb.cwnd
-            && left.ssthresh == self.tcb.ssthresh
-            && self.world.deadline() == self.tcb.deadline
+        let (w, t) = (self.world.connection(), &self.tcb);
+        same_ends(w, t)
+            && same_positions(w, t)
+            && same_windows(w, t)
+            && same_losses(w, t)
+            && same_marks(w, t)
+            && same_held(w, t)
     }
 
     pub(crate) fn flush(&mut self, alloc: Global, cfg: &Cfg) -> Result<bool, NoMemory>
@@ -215,7 +298,7 @@ impl Twins {
             return Ok(false);
         }
         let outs = flush(cfg, &mut self.tcb, self.now);
-        Ok(are_same(&outputs, &outs) && self.agree())
+        Ok(are_same(&outputs, &outs, self.world.connection()) && self.agree())
     }
 
     /// The time goes on to the deadline, which expires.
@@ -233,7 +316,7 @@ impl Twins {
             return Ok(false);
         }
         let outs = expire(cfg, &mut self.tcb, self.now);
-        Ok(are_same(&outputs, &outs) && self.agree())
+        Ok(are_same(&outputs, &outs, self.world.connection()) && self.agree())
     }
 
     pub(crate) fn send(&mut self, alloc: Global, cfg: &Cfg, n: usize) -> Result<bool, NoMemory>
@@ -241,8 +324,9 @@ impl Twins {
         requires standing { IsStanding cfg.now self.old.world }
         ensures { OnOk result (IsStanding cfg.now self.new.world) }
     {
-        let n = n.min(TEXT.len());
-        let bytes = Bytes::from_slice(alloc, &TEXT[..n])?;
+        let text = text();
+        let n = n.min(text.len());
+        let bytes = Bytes::from_slice(alloc, &text[..n])?;
         let outputs = self.take(alloc, cfg, &Input::Call(Ask::Sendv { bytes }))?;
         if let Some(Output::Ret(Ret::Done(taken))) = outputs.get(0) {
             self.tcb.queued = self.tcb.queued.wrapping_add(*taken);

@@ -15,21 +15,25 @@ use Rattle.ix_groupdef.specs.Group.{Group, Cycle, Frames, Connect, OneLives, run
 use Rattle.ix_groupdef.specs.Laws.{AreRuns, FewLive}
 use Rattle.ix_groupdef.specs.Places.{NoneLost, HearOwn, HeardPart, HeardInOrder, RiseFrom, accepted, in_wire_order, numbers, placed, segments_of}
 use Rattle.ix_groupdef.specs.Record.{record_of}
+use Rattle.ix_groupdef.specs.Sent.{FramesFit}
 use Rattle.ix_groupdef.specs.Setting.{Setting}
 use Rattle.ix_groupdef.specs.StrayFrames.{AreStraysOf, IsLeftOver, StraysInOrder, StraysAreLeftOver}
 use Rattle.ix_groupdef.specs.Told.{IsFrame, ToldStreams}
+use Rattle.ix_groupdef.specs.Whole.{JournalsAreWhole}
 use Rattle.ix_tcpdef.specs.Sound.{IsInRange}
 use Rattle.ix_wire.specs.declared.entry.Entry.{Entry}
 use Rattle.ix_wire.specs.declared.entry.Entry.TheVariants as entries
 use Rattle.ix_playdef.specs.Connects.{core0, connects_in}
 use Rattle.ix_playdef.specs.Groups.{AreRecords}
+use Rattle.ix_playdef.specs.Replies.{CanBeTold}
 use Rattle.ix_playdef.specs.Setting.{cfg_of, application_of, setting_of_play}
-use Rattle.ix_playdef.specs.Sound.{IsSoundGroup, AreBytes, frame_in, frames_given, TakersAreSound, RecordsAreSound}
+use Rattle.ix_playdef.specs.Sound.{IsSoundGroup, AreBytes, frame_in, frames_given, TakersAreSound, RecordsAreSound, RecordsAreTold}
 use Rattle.ix_playdef.specs.Wire.{cycle_by, cycles_of, given_by, given_frame, given_from, group_entries, is_taken}
 use Rattle.ix_steer.specs.Steering.{group_of_frame}
 use Rattle.ix_playdef.specs.declared.wire.Given.{Given}
 use Rattle.ix_playdef.specs.declared.wire.Given.TheVariants.{Frame, Time}
 use Rattle.ix_base.specs.declared.id.TheConstants.{BUFFER_BYTES}
+use Rattle.ix_playdef.proofs.FitLaws.{told-of}
 
 -- ## The laws of groups that are used
 pub record GroupLaws : Type 0 where
@@ -137,6 +141,11 @@ in-range conf =
 pub takers_are_sound : GroupLaws → AnswersGrow → TakersAreSound
 takers_are_sound laws grow conf frames asked cs taken left is same rise each =
     sound-group laws grow (setting_of_play (settings_of conf) frames) (settings_of conf) refl (in-range conf) asked cs taken left is same rise each
+
+pub records_are_told : FramesFit → JournalsAreWhole → RecordsAreTold
+records_are_told fit whole conf frames entries records are group d lt =
+    let s : Settings = settings_of conf in
+    subst CanBeTold (sym (are.each group d lt)) (told-of (setting_of_play s frames) (connects_in s group) (group_entries frames group entries) (in-range conf) fit whole)
 
 pub records_are_sound : GroupLaws → AnswersGrow → RecordsAreSound
 records_are_sound laws grow conf frames entries records bytes are group d lt =

@@ -7,6 +7,7 @@ use Rattle.ix_groupdef.specs.declared.types.GroupRecord.{GroupRecord}
 use Rattle.ix_groupdef.specs.declared.types.JournalEntry.{JournalEntry}
 use Rattle.ix_groupdef.specs.declared.types.Stray.{Stray}
 use Rattle.ix_groupdef.specs.Sent.{CanBeWritten}
+use Rattle.ix_groupdef.specs.Whole.{AreWhole}
 use Rattle.ix_seg.specs.Written.{frame_bytes}
 use Rattle.ix_tcpdef.specs.declared.types.Input.{Input}
 use Rattle.ix_tcpdef.specs.declared.types.Input.TheVariants as inputs
@@ -105,8 +106,17 @@ IsShortIfAny (Some frame) = length frame < 2 ^ 32
 abbrev pub IsShortlyAnswered : Stray → Type 0
 IsShortlyAnswered s = IsShortIfAny s.reply
 
+-- each of a connection's segments has its core, and each of its flushes the last entry of its cycle
+abbrev pub IsWhole : ConnEnd → Type 0
+IsWhole c = AreWhole c.journal c.ends
+
+-- what a group's connections leave can be told
+pub record CanBeTold (r : GroupRecord) : Type 0 where
+  pub written : All CanAllBeWritten r.conns
+  pub whole : All IsWhole r.conns
+
 pub record FitsGroup (r : GroupRecord) : Type 0 where
-  pub conns : All CanAllBeWritten r.conns
+  pub told : CanBeTold r
   pub strays : All IsShortlyAnswered r.strays
 
 abbrev pub group_replies : Places → Local → ℕ → GroupRecord → List Reply

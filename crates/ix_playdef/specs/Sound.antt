@@ -1,5 +1,5 @@
 -- What is true of the groups of every play.
-use Rattle.std.specs.Prelude.{◌≡◌, ◌≤◌, ◌<◌, ℕ, ◌+◌, Bool, List, [], ◌∷◌, ◌++◌, length, slice_index_or, filter, count_by}
+use Rattle.std.specs.Prelude.{◌≡◌, ◌≤◌, ◌<◌, ℕ, ◌+◌, All, Bool, List, [], ◌∷◌, ◌++◌, length, slice_index_or, filter, count_by}
 use Rattle.std.specs.List.{AllByRecursion}
 use Rattle.ix_conf.specs.declared.settings.Conf.{Conf}
 use Rattle.ix_conf.specs.Settings.{Settings, settings_of}
@@ -19,6 +19,7 @@ use Rattle.ix_groupdef.specs.Told.{IsFrame, ToldStream}
 use Rattle.ix_wire.specs.declared.entry.Entry.{Entry}
 use Rattle.ix_playdef.specs.Connects.{core0, connects_in}
 use Rattle.ix_playdef.specs.Groups.{AreRecords}
+use Rattle.ix_playdef.specs.Replies.{CanBeTold}
 use Rattle.ix_playdef.specs.Setting.{setting_of_play}
 use Rattle.ix_playdef.specs.Wire.{cycles_of, group_entries}
 use Rattle.ix_playdef.specs.declared.wire.Given.{Given}
@@ -70,6 +71,10 @@ TakersAreSound =
     → IsSoundGroup (setting_of_play (settings_of conf) frames) asked cs taken left
 
 -- ## Whatever a configuration, a capture and a wire list leave
+-- It can be told.
+abbrev pub RecordsAreTold : Type 0
+RecordsAreTold = (conf : Conf) (frames : List (List ℕ)) (entries : List Entry) (records : List GroupRecord) → AreRecords (settings_of conf) frames entries records → All CanBeTold records
+
 abbrev pub RecordsAreSound : Type 0
 RecordsAreSound =
     (conf : Conf) (frames : List (List ℕ)) (entries : List Entry) (records : List GroupRecord) → AllByRecursion AreBytes frames

@@ -75,7 +75,7 @@ pub fn group_records(
     ensures groups { IfOk result (λ records. length records.items ≡ 512) }
     ensures each { IfOk result (λ records. AreRecords (settings_of conf.now) (frames_of bytes.now capture.now) entries.now records.items) }
 
-    // What each leaves can be written.
+    // What each leaves can be written and told.
     ensures fit { IfOk result (λ records. All FitsGroup records.items) }
 {
     groups_are_sound();

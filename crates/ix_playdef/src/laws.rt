@@ -1,5 +1,5 @@
 // A law on the groups of all plays.
-ghost use Rattle.ix_playdef.specs.Sound.{RecordsAreSound, TakersAreSound};
+ghost use Rattle.ix_playdef.specs.Sound.{RecordsAreSound, RecordsAreTold, TakersAreSound};
 
 use ix_appdef::answers_grow;
 use ix_groupdef::groups_are_sound;
@@ -10,10 +10,11 @@ use ix_groupdef::groups_are_sound;
 /// runs of the TCP step and legal for the cycles; at most 64 connections lived at once, and at most one of a flow. What TCP took is the
 /// beginning of the answer. What an application was told are the bytes of the delivered parts, and begins the peer's stream where the
 /// peer agrees with itself. The same is true of a group that took short frames of bytes with rising wire numbers, however they are cut
-/// into cycles.
+/// into cycles. All that a group's connections leave can be written and told.
 pub fn records_are_sound()
     ensures takers { TakersAreSound }
     ensures records { RecordsAreSound }
+    ensures told { RecordsAreTold }
 {
     groups_are_sound();
     answers_grow();

@@ -1,6 +1,6 @@
 -- Each record of the replies is named once.
 use Rattle.std.proofs.Common.{◌≡◌, ℕ, zero, suc, ◌+◌, ◌<◌, ◌≤◌, refl, sym, ap, ◌∙◌, Bool, true, false, List, [], ◌∷◌, ◌++◌, length, map, arith, inl, inr}
-use Rattle.std.specs.Prelude.{◌==◌, cond, count_by, if◌then◌else◌, nat_lt, Option, Some, None}
+use Rattle.std.specs.Prelude.{◌==◌, cond, count_by, if◌then◌else◌, nat_lt, Option, Some, None, option_map}
 use Rattle.std.specs.List.{range_with_len}
 use Rattle.std.specs.List.Sorted.{IsPermutation}
 use Rattle.std.proofs.lemmas.Bool.{cases_eq, cases_lt}
@@ -9,12 +9,16 @@ use Rattle.std.proofs.lemmas.List.Sorted.{sum_by-IsPermutation}
 use Rattle.std.proofs.lemmas.List.Sums.{sum_by-append, sum_by-cons}
 use Rattle.ix_base.specs.declared.frame.Local.{Local}
 use Rattle.ix_base.specs.declared.id.WireNo.{WireNo}
+use Rattle.ix_base.specs.declared.segment.Ret.{Ret}
+use Rattle.ix_base.specs.declared.segment.Ret.TheVariants as returns
 use Rattle.ix_groupdef.specs.declared.types.ConnEnd.{ConnEnd}
 use Rattle.ix_groupdef.specs.declared.types.GroupRecord.{GroupRecord}
 use Rattle.ix_groupdef.specs.declared.types.JournalEntry.{JournalEntry}
 use Rattle.ix_groupdef.specs.declared.types.Stray.{Stray}
 use Rattle.ix_lines.specs.declared.line.Line.{Line}
 use Rattle.ix_lines.specs.declared.line.Line.TheVariants as lines
+use Rattle.ix_lines.specs.declared.types.InputKind.{InputKind}
+use Rattle.ix_lines.specs.declared.types.OutputLine.TheVariants as given
 use Rattle.ix_lines.specs.declared.types.StrayLine.{StrayLine}
 use Rattle.ix_tcpdef.specs.declared.types.Output.{Output}
 use Rattle.ix_tcpdef.specs.declared.types.Output.TheVariants as outputs
@@ -25,8 +29,8 @@ use Rattle.ix_playdef.specs.Placed.{placed}
 use Rattle.ix_playdef.specs.Replies.{Places, all_replies, answered, end_at, input_replies, key_at, opened_replies, reply_of, stray_key, stray_reply}
 use Rattle.ix_playdef.specs.declared.order.Reply.{Reply}
 use Rattle.ix_playdef.specs.declared.order.ReplyKey.{ReplyKey}
-use Rattle.ix_report.specs.Lines.{all_strays, conn_lines, group_lines, group_strays, input_kind, input_lines, lines_of, one_stray, opening_of, output_line, reply_number, told_line}
-use Rattle.ix_report.specs.Named.{NamesEachOnce, answer_names, names, output_names}
+use Rattle.ix_report.specs.Lines.{all_strays, conn_lines, given_line, group_lines, group_strays, input_kind, input_line, input_lines, lines_of, one_stray, opening_of, present, reply_number, ret_line, told_line}
+use Rattle.ix_report.specs.Named.{NamesEachOnce, answer_names, names, names_if_any, output_names}
 use Rattle.ix_report.specs.declared.report.Report.{Report}
 
 -- ## Counts
@@ -115,26 +119,41 @@ told-unnamed n (told.Sent bytes window) = refl
 told-unnamed n told.DeadReset = refl
 told-unnamed n told.DeadTimeout = refl
 
+ret-unnamed : (n : ℕ) (r : Ret) → names_if_any n (option_map lines.Output (option_map given.Ret (ret_line r))) ≡ false
+ret-unnamed n (returns.Done bytes) = refl
+ret-unnamed n returns.BadHandle = refl
+ret-unnamed n returns.NotKnocked = refl
+ret-unnamed n returns.NotOpen = refl
+ret-unnamed n returns.TooMuch = refl
+ret-unnamed n returns.NoNeighbour = refl
+ret-unnamed n returns.NoPort = refl
+ret-unnamed n returns.TableFull = refl
+
+kind-unnamed : (n : ℕ) (kind : Option InputKind) → names_if_any n (option_map lines.Input kind) ≡ false
+kind-unnamed n None = refl
+kind-unnamed n (Some kind) = refl
+
 module _ (places : Places) (replies : List Reply) (n : ℕ) (local : Local) where
-  output-named : (key : ReplyKey) (o : Output) → count_by (names n) (lines.Output (output_line replies key o) ∷ []) ≡ count_by (has replies n) (reply_of local key o)
+  output-named : (key : ReplyKey) (o : Output) → count_by (names_if_any n) (given_line replies key o ∷ []) ≡ count_by (has replies n) (reply_of local key o)
   output-named key (outputs.Frame seg) = refl
-  output-named key (outputs.Told t) = count-no (names n) (lines.Output (output_line replies key (outputs.Told t))) [] (told-unnamed n t)
-  output-named key (outputs.Ret r) = refl
+  output-named key (outputs.Told t) = count-no (names_if_any n) (given_line replies key (outputs.Told t)) [] (told-unnamed n t)
+  output-named key (outputs.Ret r) = count-no (names_if_any n) (given_line replies key (outputs.Ret r)) [] (ret-unnamed n r)
 
   input-named : (group opening : ℕ) (ends : List (Option WireNo)) (at : ℕ) (e : JournalEntry)
-      → count_by (names n) (input_lines places replies group opening ends at e) ≡ count_by (has replies n) (input_replies places local group opening ends at e)
+      → count_by (names_if_any n) (input_lines places replies group opening ends at e) ≡ count_by (has replies n) (input_replies places local group opening ends at e)
   input-named group opening ends at e =
-      let given : ℕ → Output → List Line = λ output o. lines.Output (output_line replies (key_at places group opening at e.input (end_at ends at) output) o) ∷ [] in
-      count-no (names n) (lines.Input (input_kind e.input e.clock e.core (end_at ends at))) (placed given 0 e.outputs) refl
-      ∙ count-placed (names n) (has replies n) given (λ output o. reply_of local (key_at places group opening at e.input (end_at ends at) output) o)
+      let lines_given : ℕ → Output → List (Option Line) = λ output o. given_line replies (key_at places group opening at e.input (end_at ends at) output) o ∷ [] in
+      count-no (names_if_any n) (input_line e.input e.clock e.core (end_at ends at)) (placed lines_given 0 e.outputs) (kind-unnamed n (input_kind e.input e.clock e.core (end_at ends at)))
+      ∙ count-placed (names_if_any n) (has replies n) lines_given (λ output o. reply_of local (key_at places group opening at e.input (end_at ends at) output) o)
       (λ output o. output-named (key_at places group opening at e.input (end_at ends at) output) o) 0 e.outputs
 
-  conn-named : (group at : ℕ) (c : ConnEnd) → count_by (names n) (conn_lines places replies group at c) ≡ count_by (has replies n) (opened_replies places local group at c)
+  conn-named : (group at : ℕ) (c : ConnEnd) → count_by (names_if_any n) (conn_lines places replies group at c) ≡ count_by (has replies n) (opened_replies places local group at c)
   conn-named group at c =
-      let journal : List Line = placed (input_lines places replies group (at + 1) c.ends) 0 c.journal in
-      count-no (names n) (lines.Conn at (opening_of group c)) (journal ++ lines.Left c.left ∷ lines.Answer c.wrote c.taken ∷ []) refl
-      ∙ (let parts : count_by (names n) (journal ++ lines.Left c.left ∷ lines.Answer c.wrote c.taken ∷ []) ≡ count_by (names n) journal + 0 = count-append (names n) journal (lines.Left c.left ∷ lines.Answer c.wrote c.taken ∷ []) in omega (arith, parts))
-      ∙ count-placed (names n) (has replies n) (input_lines places replies group (at + 1) c.ends) (input_replies places local group (at + 1) c.ends)
+      let journal : List (Option Line) = placed (input_lines places replies group (at + 1) c.ends) 0 c.journal in
+      let last : List (Option Line) = Some (lines.Left c.left) ∷ Some (lines.Answer c.wrote c.taken) ∷ [] in
+      count-no (names_if_any n) (Some (lines.Conn at (opening_of group c))) (journal ++ last) refl
+      ∙ (let parts : count_by (names_if_any n) (journal ++ last) ≡ count_by (names_if_any n) journal + 0 = count-append (names_if_any n) journal last in omega (arith, parts))
+      ∙ count-placed (names_if_any n) (has replies n) (input_lines places replies group (at + 1) c.ends) (input_replies places local group (at + 1) c.ends)
       (input-named group (at + 1) c.ends) 0 c.journal
 
   answer-named : (key : ReplyKey) (frame : Option (List ℕ)) → 0 + cond (answer_names n (reply_number replies key frame)) 1 0 ≡ count_by (has replies n) (answered key frame)
@@ -146,7 +165,7 @@ module _ (places : Places) (replies : List Reply) (n : ℕ) (local : Local) wher
 
   -- in which the strays of all groups stand in front
   all-named : (groups : List GroupRecord)
-      → count_by (λ (l : StrayLine). names n (lines.Stray l)) (all_strays replies groups) + count_by (names n) (placed (group_lines places replies) 0 groups)
+      → count_by (λ (l : StrayLine). names n (lines.Stray l)) (all_strays replies groups) + count_by (names_if_any n) (placed (group_lines places replies) 0 groups)
       ≡ count_by (has replies n) (all_replies places local groups)
   all-named groups =
       let answers : ℕ → GroupRecord → List Reply = λ group r. placed (stray_reply group) 0 r.strays in
@@ -155,9 +174,9 @@ module _ (places : Places) (replies : List Reply) (n : ℕ) (local : Local) wher
       let strays : count_by is_named (all_strays replies groups) ≡ count_by (has replies n) (placed answers 0 groups) =
       count-placed is_named (has replies n) (group_strays replies) answers
       (λ group r. count-placed is_named (has replies n) (one_stray replies group) (stray_reply group) (stray-named group) 0 r.strays) 0 groups in
-      let conns : count_by (names n) (placed (group_lines places replies) 0 groups) ≡ count_by (has replies n) (placed frames 0 groups) =
-      count-placed (names n) (has replies n) (group_lines places replies) frames
-      (λ group r. count-placed (names n) (has replies n) (conn_lines places replies group) (opened_replies places local group) (conn-named group) 0 r.conns) 0 groups in
+      let conns : count_by (names_if_any n) (placed (group_lines places replies) 0 groups) ≡ count_by (has replies n) (placed frames 0 groups) =
+      count-placed (names_if_any n) (has replies n) (group_lines places replies) frames
+      (λ group r. count-placed (names_if_any n) (has replies n) (conn_lines places replies group) (opened_replies places local group) (conn-named group) 0 r.conns) 0 groups in
       let parts : count_by (has replies n) (all_replies places local groups) ≡ count_by (has replies n) (placed answers 0 groups) + count_by (has replies n) (placed frames 0 groups) =
       count-parts (has replies n) answers frames 0 groups in
       omega (arith, strays, conns, parts)
@@ -170,19 +189,20 @@ has-once replies n numbered =
 
 one-line : (places : Places) (local : Local) (r : Report)
     → IsPermutation (all_replies places local r.groups) r.replies → numbers_among r.replies r.replies ≡ range_with_len 0 (length r.replies) → IsPermutation (all_strays r.replies r.groups) r.strays
-    → (n : ℕ) → count_by (names n) (lines_of places r) ≡ (if nat_lt n (length r.replies) then 1 else 0)
+    → (n : ℕ) → count_by (names_if_any n) (lines_of places r) ≡ (if nat_lt n (length r.replies) then 1 else 0)
 one-line places local r same numbered moved n =
     let is_named : StrayLine → Bool = λ l. names n (lines.Stray l) in
-    let strays : List Line = map lines.Stray r.strays in
-    let entries : List Line = placed (group_lines places r.replies) 0 r.groups in
-    let end : List Line = lines.End (length r.replies) r.drops ∷ [] in
-    let front : count_by (names n) (strays ++ (entries ++ end)) ≡ count_by (names n) strays + count_by (names n) (entries ++ end) = count-append (names n) strays (entries ++ end) in
-    let back : count_by (names n) (entries ++ end) ≡ count_by (names n) entries + 0 = count-append (names n) entries end in
-    let by_strays : count_by (names n) strays ≡ count_by is_named (all_strays r.replies r.groups) =
-    count-map (names n) lines.Stray r.strays ∙ count-moved is_named (all_strays r.replies r.groups) r.strays moved in
-    let all : count_by is_named (all_strays r.replies r.groups) + count_by (names n) entries ≡ count_by (has r.replies n) (all_replies places local r.groups) = all-named places r.replies n local r.groups in
+    let strays : List (Option Line) = present (map lines.Stray r.strays) in
+    let entries : List (Option Line) = placed (group_lines places r.replies) 0 r.groups in
+    let end : List (Option Line) = Some (lines.End (length r.replies) r.drops) ∷ [] in
+    let front : count_by (names_if_any n) (strays ++ (entries ++ end)) ≡ count_by (names_if_any n) strays + count_by (names_if_any n) (entries ++ end) =
+    count-append (names_if_any n) strays (entries ++ end) in
+    let back : count_by (names_if_any n) (entries ++ end) ≡ count_by (names_if_any n) entries + 0 = count-append (names_if_any n) entries end in
+    let by_strays : count_by (names_if_any n) strays ≡ count_by is_named (all_strays r.replies r.groups) =
+    count-map (names_if_any n) Some (map lines.Stray r.strays) ∙ count-map (names n) lines.Stray r.strays ∙ count-moved is_named (all_strays r.replies r.groups) r.strays moved in
+    let all : count_by is_named (all_strays r.replies r.groups) + count_by (names_if_any n) entries ≡ count_by (has r.replies n) (all_replies places local r.groups) = all-named places r.replies n local r.groups in
     let kept : count_by (has r.replies n) r.replies ≡ count_by (has r.replies n) (all_replies places local r.groups) = count-moved (has r.replies n) (all_replies places local r.groups) r.replies same in
-    let sum : count_by (names n) (strays ++ (entries ++ end)) ≡ count_by (has r.replies n) r.replies = omega (arith, front, back, by_strays, all, kept) in
+    let sum : count_by (names_if_any n) (strays ++ (entries ++ end)) ≡ count_by (has r.replies n) r.replies = omega (arith, front, back, by_strays, all, kept) in
     sum ∙ has-once r.replies n numbered
 
 pub named-once : (places : Places) (local : Local) (r : Report)

@@ -22,6 +22,10 @@ names n (lines.Output output) = output_names n output
 names n (lines.Stray s) = answer_names n s.reply
 names n _ = false
 
+abbrev pub names_if_any : ℕ → Option Line → Bool
+names_if_any n None = false
+names_if_any n (Some line) = names n line
+
 -- Exactly one line of the report names each record, counted from 0, and none names a record that isn't there.
 pub record NamesEachOnce (places : Places) (r : Report) : Type 0 where
-  pub count : (n : ℕ) → count_by (names n) (lines_of places r) ≡ (if nat_lt n (length r.replies) then 1 else 0)
+  pub count : (n : ℕ) → count_by (names_if_any n) (lines_of places r) ≡ (if nat_lt n (length r.replies) then 1 else 0)

@@ -1,12 +1,16 @@
 // The lines of a report's short text.
-ghost use Rattle.std.specs.Prelude.{◌≡◌, ◌≤◌, ◌<◌, ◌^◌, ◌++◌, [], ◌∷◌, OnOk, IfOk, length, map};
+ghost use Rattle.std.specs.Prelude.{◌≡◌, ◌≤◌, ◌<◌, ◌^◌, ◌++◌, [], ◌∷◌, All, Some, IsSome, OnOk, IfOk, length, map, option_map};
 ghost use Rattle.std.specs.List.Sorted.{IsSortedByKey};
 ghost use Rattle.ix_groupdef.specs.Journal.{seen_entry, seen_input};
+ghost use Rattle.ix_groupdef.specs.Sent.{CanBeWritten, IsCallAnswer};
+ghost use Rattle.ix_groupdef.specs.Whole.{AreWhole, HasCore, HasEnd};
+ghost use Rattle.ix_groupdef.specs.declared.types.JournalEntry.{JournalEntry as Entry};
 ghost use Rattle.ix_lines.specs.declared.line.Line.TheVariants as kinds;
+ghost use Rattle.ix_lines.specs.declared.types.InputKind.TheVariants as input_kinds;
 ghost use Rattle.ix_playdef.specs.Order.{key_cmp, key_of, number_of};
 ghost use Rattle.ix_playdef.specs.Placed.{placed};
-ghost use Rattle.ix_playdef.specs.Replies.{by_opening};
-ghost use Rattle.ix_report.specs.Lines.{call_kind, conn_lines, group_lines, input_kind, input_lines, lines_of, opening_of, output_line, ret_line, told_line};
+ghost use Rattle.ix_playdef.specs.Replies.{CanAllBeWritten, CanBeTold, IsWhole, by_opening, end_at};
+ghost use Rattle.ix_report.specs.Lines.{call_kind, conn_lines, given_line, group_lines, input_kind, input_lines, lines_of, opening_of, output_line, present, ret_line, told_line};
 
 use crate::report::Report;
 use ix_base::{BufId, CoreId, GroupId, NoMemory, Ret, WireNo};
@@ -17,14 +21,16 @@ use ix_tcpdef::{Ask, Input, Output, Told};
 use std::alloc::Global;
 
 fn ret_line(ret: Ret) -> RetLine
-    ensures { result ≡ ret_line ret }
+    requires { IsCallAnswer ret }
+    ensures { Some result ≡ ret_line ret }
 {
     match ret {
         Ret::Done(n) => RetLine::Done(n),
         Ret::BadHandle => RetLine::BadHandle,
         Ret::NotKnocked => RetLine::NotKnocked,
+        Ret::NotOpen => RetLine::NotOpen,
         Ret::TooMuch => RetLine::TooMuch,
-        _ => RetLine::NotOpen,
+        Ret::NoNeighbour | Ret::NoPort | Ret::TableFull => unreachable!(),
     }
 }
 
@@ -54,7 +60,8 @@ fn told_line(told: Told) -> OutputLine
 fn output_line(replies: &[Reply], key: &ReplyKey, output: &Output) -> OutputLine
     requires order { IsSortedByKey key_of key_cmp replies.now }
     requires few { length replies.now < 2 ^ 32 }
-    ensures { result ≡ output_line replies.now key.now output.now }
+    requires written { CanBeWritten output.now }
+    ensures { Some result ≡ output_line replies.now key.now output.now }
 {
     match output {
         Output::Frame(_) => OutputLine::Reply(number_of(replies, key) as u32),
@@ -77,28 +84,55 @@ fn call_kind(ask: &Ask) -> InputKind
     }
 }
 
+fn segment_kind(w: WireNo, core: Option<CoreId>) -> InputKind
+    requires { IsSome core }
+    ensures { Some result ≡ option_map (input_kinds.Seg w) core }
+{
+    match core {
+        Some(core) => InputKind::Seg { w, core },
+        None => unreachable!(),
+    }
+}
+
+fn flush_kind(end: Option<WireNo>) -> InputKind
+    requires { IsSome end }
+    ensures { Some result ≡ option_map input_kinds.Flush end }
+{
+    match end {
+        Some(w) => InputKind::Flush { w },
+        None => unreachable!(),
+    }
+}
+
+#[tactic(auto, using(crate::proofs::LineLaws::for_kinds))]
 fn input_kind(view: &EntryView<'_>, end: Option<WireNo>) -> InputKind
-    ensures { result ≡ input_kind (seen_input view.now.input) view.now.clock view.now.core end }
+    requires core { HasCore (seen_input view.now.input) view.now.core }
+    requires end { HasEnd (seen_input view.now.input) end }
+    ensures { Some result ≡ input_kind (seen_input view.now.input) view.now.clock view.now.core end }
 {
     match view.input {
         InputView::Sendv(bytes) => InputKind::Sendv {
             n: bytes.len() as u64,
         },
         InputView::Other(input) => match input {
-            Input::Segment { w, .. } => InputKind::Seg {
-                w: *w,
-                core: view.core.unwrap_or(CoreId(0)),
-            },
+            Input::Segment { w, .. } => segment_kind(*w, view.core),
             Input::Timer => InputKind::Timer { t: view.clock },
             Input::Call(ask) => call_kind(ask),
-            Input::Flush => InputKind::Flush {
-                w: end.unwrap_or(WireNo(0)),
-            },
+            Input::Flush => flush_kind(end),
         },
     }
 }
 
-// Adds the line of an output.
+// Adds a line.
+#[tactic(auto, using(crate::proofs::LineLaws::for_push))]
+fn push_line(line: Line, lines: &mut Vec<Line>) -> Result<(), NoMemory>
+    ensures { OnOk result (present lines.new.items ≡ present lines.old.items ++ Some line ∷ []) }
+{
+    lines.push(line)?;
+    Ok(())
+}
+
+// Adds that of an output.
 fn push_output(
     replies: &[Reply],
     key: &ReplyKey,
@@ -107,9 +141,10 @@ fn push_output(
 ) -> Result<(), NoMemory>
     requires order { IsSortedByKey key_of key_cmp replies.now }
     requires few { length replies.now < 2 ^ 32 }
-    ensures { OnOk result (lines.new.items ≡ lines.old.items ++ kinds.Output (output_line replies.now key.now output.now) ∷ []) }
+    requires written { CanBeWritten output.now }
+    ensures { OnOk result (present lines.new.items ≡ present lines.old.items ++ given_line replies.now key.now output.now ∷ []) }
 {
-    lines.push(Line::Output(output_line(replies, key, output)))?;
+    push_line(Line::Output(output_line(replies, key, output)), lines)?;
     Ok(())
 }
 
@@ -126,10 +161,13 @@ fn push_input(
 ) -> Result<(), NoMemory>
     requires order { IsSortedByKey key_of key_cmp replies.now }
     requires few { length replies.now < 2 ^ 32 }
-    ensures { OnOk result (lines.new.items ≡ lines.old.items ++ input_lines by_opening replies.now group.0 opening ends.now at (seen_entry view.now)) }
+    requires core { HasCore (seen_input view.now.input) view.now.core }
+    requires end { HasEnd (seen_input view.now.input) (end_at ends.now at) }
+    requires written { All CanBeWritten view.now.outputs.now }
+    ensures { OnOk result (present lines.new.items ≡ present lines.old.items ++ input_lines by_opening replies.now group.0 opening ends.now at (seen_entry view.now)) }
 {
     let end = end_at(ends, at);
-    lines.push(Line::Input(input_kind(view, end)))?;
+    push_line(Line::Input(input_kind(view, end)), lines)?;
     let outputs = view.outputs.as_slice();
     for (i, output) in outputs.iter().enumerate() {
         let key = key_at(group, opening, at, view.input, end, i);
@@ -150,7 +188,9 @@ fn push_journal(
 ) -> Result<(), NoMemory>
     requires order { IsSortedByKey key_of key_cmp replies.now }
     requires few { length replies.now < 2 ^ 32 }
-    ensures { OnOk result (lines.new.items ≡ lines.old.items ++ placed (input_lines by_opening replies.now group.0 opening ends.now) 0 journal.now) }
+    requires written { All (λ (e : Entry). All CanBeWritten e.outputs) journal.now }
+    requires whole { AreWhole journal.now ends.now }
+    ensures { OnOk result (present lines.new.items ≡ present lines.old.items ++ placed (input_lines by_opening replies.now group.0 opening ends.now) 0 journal.now) }
 {
     for i in 0..journal.len() {
         let view = journal.entry(i);
@@ -182,19 +222,23 @@ fn push_conn(
     requires order { IsSortedByKey key_of key_cmp replies.now }
     requires few { length replies.now < 2 ^ 32 }
     requires place { order < 2 ^ 63 }
-    ensures { OnOk result (lines.new.items ≡ lines.old.items ++ conn_lines by_opening replies.now group.0 order conn.now) }
+    requires written { CanAllBeWritten conn.now }
+    requires whole { IsWhole conn.now }
+    ensures { OnOk result (present lines.new.items ≡ present lines.old.items ++ conn_lines by_opening replies.now group.0 order conn.now) }
 {
-    lines.push(Line::Conn {
+    let line = Line::Conn {
         order: order as u64,
         opening: opening_of(group, conn),
-    })?;
+    };
+    push_line(line, lines)?;
     let ends = conn.ends.as_slice();
     push_journal(replies, group, order + 1, ends, &conn.journal, lines)?;
-    lines.push(Line::Left(conn.left))?;
-    lines.push(Line::Answer {
+    push_line(Line::Left(conn.left), lines)?;
+    let answer = Line::Answer {
         wrote: conn.wrote,
         taken: conn.taken,
-    })?;
+    };
+    push_line(answer, lines)?;
     Ok(())
 }
 
@@ -208,7 +252,9 @@ fn push_group(
 ) -> Result<(), NoMemory>
     requires order { IsSortedByKey key_of key_cmp replies.now }
     requires few { length replies.now < 2 ^ 32 }
-    ensures { OnOk result (lines.new.items ≡ lines.old.items ++ placed (conn_lines by_opening replies.now group.0) 0 conns.now) }
+    requires written { All CanAllBeWritten conns.now }
+    requires whole { All IsWhole conns.now }
+    ensures { OnOk result (present lines.new.items ≡ present lines.old.items ++ placed (conn_lines by_opening replies.now group.0) 0 conns.now) }
 {
     for (i, conn) in conns.iter().enumerate() {
         push_conn(replies, group, i, conn, lines)?;
@@ -226,7 +272,8 @@ fn push_groups(
     requires order { IsSortedByKey key_of key_cmp replies.now }
     requires few { length replies.now < 2 ^ 32 }
     requires groups { length groups.now ≤ 512 }
-    ensures { OnOk result (lines.new.items ≡ lines.old.items ++ placed (group_lines by_opening replies.now) 0 groups.now) }
+    requires told { All CanBeTold groups.now }
+    ensures { OnOk result (present lines.new.items ≡ present lines.old.items ++ placed (group_lines by_opening replies.now) 0 groups.now) }
 {
     for (i, left) in groups.iter().enumerate() {
         push_group(replies, GroupId(i as u16), left.conns.as_slice(), lines)?;
@@ -244,20 +291,22 @@ fn push_strays(strays: &[StrayLine], lines: &mut Vec<Line>) -> Result<(), NoMemo
     Ok(())
 }
 
-/// The lines behind the head of a report's short text.
+/// The lines behind the head of a report's short text: none is missing.
 pub fn lines_of(alloc: Global, report: &Report) -> Result<Vec<Line>, NoMemory>
     requires order { IsSortedByKey key_of key_cmp report.now.replies }
     requires few { length report.now.replies < 2 ^ 32 }
     requires groups { length report.now.groups ≤ 512 }
-    ensures { IfOk result (λ lines. lines.items ≡ lines_of by_opening report.now) }
+    requires told { All CanBeTold report.now.groups }
+    ensures { IfOk result (λ lines. present lines.items ≡ lines_of by_opening report.now) }
 {
     let mut lines = Vec::new(alloc);
     let replies = report.replies.as_slice();
     push_strays(report.strays.as_slice(), &mut lines)?;
     push_groups(replies, report.groups.as_slice(), &mut lines)?;
-    lines.push(Line::End {
+    let end = Line::End {
         replies: replies.len() as u32,
         drops: report.drops,
-    })?;
+    };
+    push_line(end, &mut lines)?;
     Ok(lines)
 }

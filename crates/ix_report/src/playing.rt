@@ -2,7 +2,7 @@
 ghost use Rattle.std.specs.Prelude.{◌≡◌, ◌≤◌, ◌<◌, ◌^◌, All, IfOk, count_by, length};
 ghost use Rattle.ix_conf.specs.Settings.{settings_of};
 ghost use Rattle.ix_pcap.specs.Capture.{IsSpanOf, frames_of};
-ghost use Rattle.ix_playdef.specs.Replies.{IsShort, by_opening};
+ghost use Rattle.ix_playdef.specs.Replies.{CanBeTold, IsShort, by_opening};
 ghost use Rattle.ix_report.specs.Fits.{Fits, is_dropped};
 
 use crate::report::Report;
@@ -57,6 +57,9 @@ pub fn play(
     ensures fits { IfOk result (λ report. Fits (settings_of conf.now) (frames_of bytes.now capture.now) entries.now by_opening report) }
     ensures few { IfOk result (λ report. length report.replies < 2 ^ 32) }
     ensures short { IfOk result (λ report. All IsShort report.replies) }
+
+    // What each group leaves can be told.
+    ensures told { IfOk result (λ report. All CanBeTold report.groups) }
 {
     let groups = group_records(alloc, conf, bytes, capture, entries)?;
     let connects = connect_answers(alloc, conf)?;

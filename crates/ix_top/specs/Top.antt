@@ -87,12 +87,13 @@ play_meaning g =
 abbrev pub replies_file : List Entry → Report → List ℕ
 replies_file entries report = capture_bytes (map (sent_of entries) report.replies)
 
--- The two files are those of a report that fits these inputs, where timers and flushes go by the opening order of their connections.
+-- The two files are those of a report that fits these inputs, where timers and flushes go by the opening order of their connections. Each
+-- of its lines is there.
 pub record AreFiles (inputs : Inputs) (replies trace : List ℕ) : Type 0 where
   pub report : Report
   pub fits : Fits inputs.settings inputs.frames inputs.entries by_opening report
   pub replies_are : replies ≡ replies_file inputs.entries report
-  pub trace_is : trace ≡ short_text by_opening report
+  pub trace_is : Some trace ≡ short_text by_opening report
 
 -- the host tells what the three roles have left
 pub record Tells (x : State) (g : Given) : Type 0 where

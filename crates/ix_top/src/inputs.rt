@@ -49,7 +49,7 @@ impl Model for Inputs {
 
 impl Inputs {
     ghost use Rattle.std.specs.Prelude.{◌≡◌, ◌<◌, ◌^◌, All, IfOk, length};
-    ghost use Rattle.ix_playdef.specs.Replies.{IsShort, by_opening};
+    ghost use Rattle.ix_playdef.specs.Replies.{CanBeTold, IsShort, by_opening};
     ghost use Rattle.ix_report.specs.Fits.{Fits};
 
     /// The wire list.
@@ -64,6 +64,7 @@ impl Inputs {
         ensures fits { IfOk result (λ report. Fits self.now.settings self.now.frames self.now.entries by_opening report) }
         ensures few { IfOk result (λ report. length report.replies < 2 ^ 32) }
         ensures short { IfOk result (λ report. All IsShort report.replies) }
+        ensures told { IfOk result (λ report. All CanBeTold report.groups) }
     {
         self.records
             .play(alloc, &self.conf, self.entries.as_slice())

@@ -36,7 +36,7 @@ impl Records {
     ghost use Rattle.ix_pcap.specs.Capture.{capture_of};
     ghost use Rattle.ix_conf.specs.Settings.{settings_of};
     ghost use Rattle.ix_playdef.specs.Own.{own_frame};
-    ghost use Rattle.ix_playdef.specs.Replies.{IsShort, by_opening};
+    ghost use Rattle.ix_playdef.specs.Replies.{CanBeTold, IsShort, by_opening};
     ghost use Rattle.ix_report.specs.Fits.{Fits};
     ghost use Rattle.ix_top.specs.Top.{frames_read, Refuses, IsStop};
 
@@ -66,6 +66,7 @@ impl Records {
         ensures fits { IfOk result (λ report. Fits (settings_of conf.now) self.now entries.now by_opening report) }
         ensures few { IfOk result (λ report. length report.replies < 2 ^ 32) }
         ensures short { IfOk result (λ report. All IsShort report.replies) }
+        ensures told { IfOk result (λ report. All CanBeTold report.groups) }
     {
         play(alloc, conf, self.bytes.as_slice(), &self.capture, entries)
     }

@@ -1,4 +1,4 @@
-use Rattle.ix_playdef.proofs.SoundLaws.{GroupLaws, records_are_sound, takers_are_sound}
+use Rattle.ix_playdef.proofs.SoundLaws.{GroupLaws, records_are_sound, records_are_told, takers_are_sound}
 use Rattle.ix_playdef.proofs.laws.records_are_sound.Goals as goal
 
 pub returns : goal.returns
@@ -17,4 +17,8 @@ returns c =
       answered = c.groups_are_sound.ensures.answered;
       told = c.groups_are_sound.ensures.told;
     } in
-    record { takers = takers_are_sound laws c.answers_grow.ensures.grow; records = records_are_sound laws c.answers_grow.ensures.grow }
+    record {
+      takers = takers_are_sound laws c.answers_grow.ensures.grow;
+      records = records_are_sound laws c.answers_grow.ensures.grow;
+      told = records_are_told c.groups_are_sound.ensures.frames c.groups_are_sound.ensures.whole;
+    }

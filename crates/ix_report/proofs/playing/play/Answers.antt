@@ -2,6 +2,7 @@ use Rattle.std.proofs.Common.{refl, rules}
 use Rattle.ix_conf.specs.Settings.{settings_of}
 use Rattle.ix_playdef.specs.Own.{local_of}
 use Rattle.ix_playdef.specs.Replies.{by_opening}
+use Rattle.ix_report.proofs.LineLaws.{told_by_fit}
 use Rattle.ix_report.proofs.NamedLaws.{named-once}
 use Rattle.ix_report.proofs.playing.play.Goals as goal
 
@@ -19,3 +20,6 @@ returns-clause-fits c =
       rising = search rules;
       drops = search rules;
     }
+
+pub returns-clause-told : goal.returns-clause-told
+returns-clause-told c = told_by_fit c.in_ok-groups.groups.items c.from_vec.result c.from_vec.ensures c.in_ok-groups.ensures.fit
