@@ -24,7 +24,7 @@ use Rattle.ix_core.specs.Links.{LinkRan, LinksRan, all_of, buffer_left, buffer_t
 use Rattle.ix_core.specs.Cores.{Ran}
 use Rattle.ix_core.specs.Runs.{joined-append}
 use Rattle.ix_core.specs.Weights.{Conserves, link_put, link_taken, link_weight, message_weight, messages_weight, parcel_weight, parcels_weight, ships_weight}
-use Rattle.ix_core.proofs.Weighs.{parcels_in, run-weighs}
+use Rattle.ix_core.proofs.Weighs.{run-groups, parcels_in, run-weighs}
 
 -- ## Sums over places
 -- h 0 + h 1 + .. + h (n - 1)
@@ -236,3 +236,7 @@ module _ {U E : Type 0} (counted : Work → Bool) (name : Work → ℕ) (stepped
       let lost : ships_weight w f y.lost.items ≡ ships_weight w f x.lost.items + parcels_weight w f (joined (parcel_lost (cores_of x.links.items)) r.outs) =
       ap (parcels_weight w f) r.lost ∙ sum_by-append (parcel_weight w f) (map parcel_of x.lost.items) (joined (parcel_lost (cores_of x.links.items)) r.outs) in
       omega (arith, run, links, queue, took, put, lost, r.weight f)
+
+  pub groups_kept : (x y : Core U E) → length x.desks.groups ≡ 512 → Ran counted name stepped advanced drained env x y → length y.desks.groups ≡ 512
+  groups_kept x y len r =
+      run-groups (weight (λ n. 0)) (λ n. 0) counted name stepped advanced drained env (steps (λ n. 0)) (drains (λ n. 0)) x.desks y.desks r.dealt r.ins r.frees r.outs len r.run

@@ -21,7 +21,7 @@ use Rattle.ix_core.specs.Cores.{LeavesNothing, Ran}
 use Rattle.ix_core.specs.Links.{HeardUp, LinkRan, all_out, all_put, all_taken, cores_of}
 use Rattle.ix_core.specs.Taking.{StopsAt}
 use Rattle.ix_core.specs.Turned.{LinkWasIdle, Turned, WasIdle, answer_of}
-use Rattle.ix_core.proofs.Units.{either_left, either_right}
+use Rattle.ix_core.proofs.Units.{either_left, either_right, no_items}
 
 -- ## The answer
 record Idled (stop : Stop) (taken : ℕ) (quiet : Bool) : Type 0 where
@@ -56,10 +56,6 @@ quiet_parts false false false e = record { first = refl; second = refl; third = 
 
 not_more : (a b : ℕ) → nat_lt a b ≡ false → b ≤ a
 not_more a b e = grind (arith, nat_tests)
-
-no_items : {X : Type 0} (xs : List X) → length xs ≡ 0 → xs ≡ []
-no_items [] e = refl
-no_items (x ∷ xs) e = absurd (omega (arith, e))
 
 -- ## Lists that grew nowhere
 sums_grow : {X : Type 0} (v w : X → ℕ) (xs ys : List X) → length ys ≡ length xs → ((i : ℕ) (d : X) → i < length xs → v (get_or xs i d) ≤ w (get_or ys i d)) → sum_by v xs ≤ sum_by w ys

@@ -22,9 +22,10 @@ use Rattle.ix_core.specs.declared.message.Message.{Message}
 use Rattle.ix_core.specs.declared.message.Message.TheVariants.{Ship, Home}
 use Rattle.ix_history.specs.Events.{Parcel}
 use Rattle.ix_core.specs.Runs.{both, calm-gone, calm-joins, calm-lent, calm-stays, joined-append}
-use Rattle.ix_core.specs.Landing.{home_in, landing_of, parcel_of}
+use Rattle.ix_core.specs.Landing.{FirstUnawaited, home_in, landing_of, parcel_of}
 use Rattle.ix_core.specs.Lists.{grows, puts}
 use Rattle.ix_core.specs.LinkRuns.{links_join, links_stay}
+use Rattle.ix_core.proofs.Awaited.{run_unawaited}
 use Rattle.ix_core.proofs.Units.{unit_changed, unit_within}
 use Rattle.ix_core.specs.Links.{AreOpened, Brings, Departs, Drains, DrainsSome, Frees, Hears, HeardUp, HearsAll, HearsSome, IsBehind, IsDrained, IsOpenedLink, Keeps, Leaves, LinkRan, LinksRan, SameLink, SameLinks, Sends, all_of, all_out, all_put, all_taken, buffer_left, buffer_to, cores_of, from_place, homes_weight, is_first, is_known, link_waits, parcel_lost, parcel_to, puts_of, takes_of}
 
@@ -93,7 +94,7 @@ came_so n m e = ap (λ k. nat_lt 0 k) (sym e)
 pub stops_so : (n m : ℕ) (K : Type 0) → n ≡ m → (m ≡ 256) ⊎ ((m < 256) × K) → (n ≡ 256) ⊎ ((n < 256) × K)
 stops_so n m K e stops = subst (λ (k : ℕ). (k ≡ 256) ⊎ ((k < 256) × K)) (sym e) stops
 
-get_any : {X : Type 0} (xs : List X) (i : ℕ) (d e : X) → i < length xs → get_or xs i d ≡ get_or xs i e
+pub get_any : {X : Type 0} (xs : List X) (i : ℕ) (d e : X) → i < length xs → get_or xs i d ≡ get_or xs i e
 get_any [] i d e h = absurd (omega arith)
 get_any (x ∷ xs) zero d e h = refl
 get_any (x ∷ xs) (suc i) d e h = get_any xs i d e (omega arith)
@@ -373,6 +374,7 @@ module _ {U E : Type 0} (counted : Work → Bool) (name : Work → ℕ) (stepped
     rest = λ i d h. refl;
     puts = refl;
     stops = λ i d h. absurd (omega arith);
+    aside = λ i d h. absurd (omega arith);
     more = omega arith;
     came = sym (not_below (all_taken links) (all_taken links) (omega arith));
     none = λ i h. refl;
@@ -392,6 +394,7 @@ module _ {U E : Type 0} (counted : Work → Bool) (name : Work → ℕ) (stepped
     rest = λ i d h2. ap (λ (k : List (Link U E)). get_or k i d) is ∙ get_or-set_other new n i m d (λ e. omega arith) ∙ so.rest i d (omega arith);
     puts = puts_one new next n l m read is h.put ∙ so.puts;
     stops = λ i d h2. heard i d h2 (cases_eq i n);
+    aside = λ i d h2. kept i d h2 (cases_eq i n);
     more = omega (arith, so.more, count);
     came = either_below (all_taken old) (all_taken new) (all_taken next) (length h.messages) some one so.more so.came h.came count;
     none = λ i h2. joined-append (from_place i) so.ins (map (landing_of n) h.landed) ∙ both _ [] _ [] (so.none i (omega arith)) (others n i h.landed (λ e. omega arith));
@@ -421,6 +424,14 @@ module _ {U E : Type 0} (counted : Work → Bool) (name : Work → ℕ) (stepped
     heard i d h2 (inr apart) =
         let there : get_or next i d ≡ get_or new i d = ap (λ (k : List (Link U E)). get_or k i d) is ∙ get_or-set_other new n i m d apart in
         rw there (so.stops i d (omega arith))
+
+    kept : (i : ℕ) (d : Link U E) → i < n + 1 → (i ≡ n) ⊎ (i ≢ n) → FirstUnawaited z (get_or next i d).ships.items
+    kept i d h2 (inl same) =
+        let there : get_or next i d ≡ m = ap (λ k. get_or next k d) same ∙ ap (λ (k : List (Link U E)). get_or k n d) is ∙ get_or-set_same new n m d lt in
+        rw there h.waits
+    kept i d h2 (inr apart) =
+        let there : get_or next i d ≡ get_or new i d = ap (λ (k : List (Link U E)). get_or k i d) is ∙ get_or-set_other new n i m d apart in
+        rw there (run_unawaited counted name stepped advanced drained env y z [] (map (landing_of n) h.landed) [] [] (get_or new i d).ships.items h.run.run (so.aside i d (omega arith)))
 
     step : (i : ℕ) (d : Link U E) → i < n + 1 → (i ≡ n) ⊎ (i ≢ n)
         → LinkRan (cores_of old) i (so.ins ++ map (landing_of n) h.landed) [] [] (get_or old i d) (get_or next i d)
@@ -468,6 +479,7 @@ module _ {U E : Type 0} (counted : Work → Bool) (name : Work → ℕ) (stepped
     links = record { cores = so.cores; count = so.count; each = λ i d h. so.done i d (omega arith); none = λ i h. so.none i (omega arith) };
     puts = so.puts;
     stops = λ i d h. so.stops i d (omega arith);
+    aside = λ i d h. so.aside i d (omega (arith, so.count));
     came = so.came;
     weight = so.weight;
   }

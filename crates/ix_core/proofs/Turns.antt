@@ -76,7 +76,7 @@ module _ {U E : Type 0} where
   put_same : (old new : List (Link U E)) → puts_of new ≡ puts_of old → all_put new ≡ all_put old
   put_same old new same = let w = λ (p : PutView (Message U E)). length (put_list p) in by_puts w new ∙ ap (sum_by w) same ∙ sym (by_puts w old)
 
-  take_at : (a b : List (Link U E)) (i : ℕ) (d : Link U E) → takes_of a ≡ takes_of b → (get_or a i d).take ≡ (get_or b i d).take
+  pub take_at : (a b : List (Link U E)) (i : ℕ) (d : Link U E) → takes_of a ≡ takes_of b → (get_or a i d).take ≡ (get_or b i d).take
   take_at [] [] i d e = refl
   take_at [] (y ∷ ys) i d e = absurd (cc)
   take_at (x ∷ xs) [] i d e = absurd (cc)

@@ -14,6 +14,15 @@ use Rattle.ix_history.specs.Runs.{Runs}
 use Rattle.ix_stack.specs.declared.work.Work.{Work}
 use Rattle.ix_core.specs.Runs.{Calm, works_in}
 
+pub no_items : {X : Type 0} (xs : List X) → length xs ≡ 0 → xs ≡ []
+no_items [] e = refl
+no_items (x ∷ xs) e = absurd (omega (arith, e))
+
+-- an element of a list that has one at this place
+pub one_of : {X : Type 0} (xs : List X) (i : ℕ) → i < length xs → X
+one_of [] i lt = absurd (omega arith)
+one_of (x ∷ xs) i lt = x
+
 pub either_left : (a b : Bool) → (a || b) ≡ false → a ≡ false
 either_left true b e = e
 either_left false b e = refl

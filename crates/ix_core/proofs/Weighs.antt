@@ -119,7 +119,7 @@ module _ {U : Type 0} (w : U → ℕ) (f : Name → ℕ) where
   done-weighs [] p e = absurd (cc)
   done-weighs (c ∷ cs) p e = done-case (is_done c.piece) c p cs refl e (done-weighs cs p)
 
-  set-weighs : (v : View U Work) (g : ℕ) (x : Group U Work) → g < length v.groups → desks_weight w f (with_group v g x) + group_weight w f (group_at v g) ≡ desks_weight w f v + group_weight w f x
+  pub set-weighs : (v : View U Work) (g : ℕ) (x : Group U Work) → g < length v.groups → desks_weight w f (with_group v g x) + group_weight w f (group_at v g) ≡ desks_weight w f v + group_weight w f x
   set-weighs v g x lt = sum_by-set (group_weight w f) v.groups g x empty lt
 
   -- a unit that leaves takes its weight along
@@ -265,3 +265,10 @@ module _ {U E : Type 0} (w : U → ℕ) (f : Name → ℕ) (counted : Work → B
         ap (λ l. buffers_weight f (all_of l)) r.handed_all,
         ap (parcels_weight w f) r.shipped_all,
       )
+
+  -- the desks of all groups are there still
+  pub run-groups : (x y : View U Work) (items : List Item) (ins : List (ℕ × Parcel U Work)) (frees : List (List Buffer)) (outs : List (Parcel U Work)) → length x.groups ≡ 512
+      → Run counted name stepped advanced drained env x y (map ring_item items) ins frees outs → length y.groups ≡ 512
+  run-groups x y items ins frees outs len r =
+      let light : AllLight f (taken_in r.events) = subst (AllLight f) (sym r.took_all) (items-light f items) in
+      (runs-weigh r.events x y len light r.runs).1 ∙ len

@@ -19,8 +19,9 @@ use Rattle.ix_core.specs.Items.{ring_item}
 use Rattle.ix_core.specs.Landing.{parcel_of}
 use Rattle.ix_core.specs.Links.{AllBehind, AreOpened, LinksRan, SameLinks, all_of, buffer_left, cores_of, homes_weight, parcel_lost}
 
--- the same ends of the same rings, and the same bound of a batch
+-- the same core: its number, its bound of a batch, and its ends of the same rings
 pub record SameEnds {U E : Type 0} (old new : Core U E) : Type 0 where
+  pub home : new.pool.home ≡ old.pool.home
   pub batch : new.batch ≡ old.batch
   pub items : SameTakeEnd old.items new.items
   pub posted : SamePutEnd old.posted new.posted
@@ -42,6 +43,7 @@ pub record IsOpened {U E : Type 0} (id : CoreId) (pool : Stock) (home : List (Gr
   pub came : new.came.items ≡ []
   pub core : new.desks.core ≡ id.0
   pub working : new.desks.failed ≡ false
+  pub groups : length new.desks.groups ≡ 512
   pub desks : (g : ℕ) → group_at new.desks g ≡ opened home g
   pub links : AreOpened ends.mesh.items new.links.items
   pub lost : new.lost.items ≡ []

@@ -20,10 +20,11 @@ use Rattle.ix_core.specs.Runs.{joined-append, run-joins, run-stays}
 use Rattle.ix_core.specs.Cores.{CoreBecame, Ran, SameEnds}
 
 same_ends : {U E : Type 0} (x : Core U E) → SameEnds x x
-same_ends x = record { batch = refl; items = refl; posted = (refl, refl); links = same_links x.links.items }
+same_ends x = record { home = refl; batch = refl; items = refl; posted = (refl, refl); links = same_links x.links.items }
 
 ends_join : {U E : Type 0} (x y z : Core U E) → SameEnds x y → SameEnds y z → SameEnds x z
 ends_join x y z p q = record {
+  home = q.home ∙ p.home;
   batch = q.batch ∙ p.batch;
   items = q.items ∙ p.items;
   posted = (q.posted.0 ∙ p.posted.0, q.posted.1 ∙ p.posted.1);

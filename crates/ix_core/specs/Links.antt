@@ -86,6 +86,10 @@ pub record HeardUp {U E : Type 0} (old new : Link U E) : Type 0 where
   pub heard : taken new.take ≡ taken old.take ++ messages
   pub stops : (length messages ≡ 256) ⊎ ((length messages < 256) × (known new.take ≡ []))
 
+-- where flow groups are kept of a link, the first of them isn't awaited
+abbrev pub AllUnawaited : {U E : Type 0} → View U Work → List (Link U E) → Type 0
+AllUnawaited {U} {E} v links = (i : ℕ) (d : Link U E) → i < length links → FirstUnawaited v (slice_index_or links i d).ships.items
+
 -- the ends of links that take, and those that put
 abbrev pub takes_of : {U E : Type 0} → List (Link U E) → List (TakeView (Message U E))
 takes_of links = map (λ l. l.take) links
@@ -184,6 +188,7 @@ module _ {U E : Type 0} (counted : Work → Bool) (name : Work → ℕ) (stepped
     pub links : LinksRan ins [] [] old new
     pub puts : puts_of new ≡ puts_of old
     pub stops : (i : ℕ) (d : Link U E) → i < length old → HeardUp (slice_index_or old i d) (slice_index_or new i d)
+    pub aside : AllUnawaited y new
     pub came : some ≡ nat_lt (all_taken old) (all_taken new)
     pub weight : (f : Name → ℕ) → buffers_weight f after + homes_weight f old ≡ buffers_weight f before + homes_weight f new
 
@@ -197,6 +202,7 @@ module _ {U E : Type 0} (counted : Work → Bool) (name : Work → ℕ) (stepped
     pub rest : (i : ℕ) (d : Link U E) → n ≤ i → slice_index_or new i d ≡ slice_index_or old i d
     pub puts : puts_of new ≡ puts_of old
     pub stops : (i : ℕ) (d : Link U E) → i < n → HeardUp (slice_index_or old i d) (slice_index_or new i d)
+    pub aside : (i : ℕ) (d : Link U E) → i < n → FirstUnawaited y (slice_index_or new i d).ships.items
     pub more : all_taken old ≤ all_taken new
     pub came : some ≡ nat_lt (all_taken old) (all_taken new)
     pub none : (i : ℕ) → n ≤ i → joined (from_place {U = U} i) ins ≡ []

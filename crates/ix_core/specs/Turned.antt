@@ -20,7 +20,7 @@ use Rattle.ix_core.specs.Items.{ring_item}
 use Rattle.ix_core.specs.Runs.{Calm}
 use Rattle.ix_core.specs.Taking.{Takes}
 use Rattle.ix_core.specs.Dealing.{FirstWaits}
-use Rattle.ix_core.specs.Links.{HeardUp, IsDrained, all_out, all_put, all_taken}
+use Rattle.ix_core.specs.Links.{AllUnawaited, HeardUp, IsDrained, all_out, all_put, all_taken}
 
 -- What a turn answers, by where it stopped taking from its receive ring, how many frames it had taken there, whether the rest of it was
 -- quiet, and how many frames it stepped.
@@ -68,6 +68,8 @@ module _ {U E : Type 0} (counted : Work → Bool) (name : Work → ℕ) (stepped
     pub arrives : Calm counted name stepped advanced drained env old.desks ready (map ring_item dealt) ins [] []
     pub queue : came ≡ dealt ++ new.came.items
     pub waits : FirstWaits ready new.came.items
+    -- the first flow group that is kept of a link isn't awaited
+    pub aside : AllUnawaited new.desks new.links.items
     -- one batch is worked, and each flow group's items of it go to one step
     pub done : View U Work
     pub works : AllWorked counted name stepped advanced env ready.core old.batch ready done

@@ -78,7 +78,14 @@ abbrev pub Conserves : {U E : Type 0} → ((Name → ℕ) → U → ℕ) → Cor
 Conserves weight old new = (f : Name → ℕ) → core_weight (weight f) f new + (put_weight (weight f) f new + taken_weight (weight f) f old)
     ≡ core_weight (weight f) f old + (put_weight (weight f) f old + taken_weight (weight f) f new)
 
--- Turns of its own conserve every weight, where the core has desks for all 512 groups and didn't run out of memory.
+-- What a core holds, what it ever put on its rings and what it ever took from them weighs the same as before, for every weight of buffers: no
+-- buffer moved.
+pub record WeighsTheSame {U E : Type 0} (weight : (Name → ℕ) → U → ℕ) (old new : Core U E) : Type 0 where
+  pub held : (f : Name → ℕ) → core_weight (weight f) f new ≡ core_weight (weight f) f old
+  pub put : (f : Name → ℕ) → put_weight (weight f) f new ≡ put_weight (weight f) f old
+  pub took : (f : Name → ℕ) → taken_weight (weight f) f new ≡ taken_weight (weight f) f old
+
+-- Turns of its own conserve every weight, where the core has desks for all 512 groups and didn't run out of memory, and it has them still.
 abbrev pub TurnsConserve : {U E : Type 0} → (Work → Bool) → (Work → ℕ) → (U → List (ℕ × ℕ)) → (U → E → ℕ → List Work → U → Type 0) → (U → List Buffer → U → Type 0) → ((Name → ℕ) → U → ℕ) → Type 0
 TurnsConserve {U} {E} counted name stepped advanced drained weight =
-    (env : E) (old new : Core U E) → length old.desks.groups ≡ 512 → new.failed ≡ false → CoreBecame counted name stepped advanced drained env old new → Conserves weight old new
+    (env : E) (old new : Core U E) → length old.desks.groups ≡ 512 → new.failed ≡ false → CoreBecame counted name stepped advanced drained env old new → (length new.desks.groups ≡ 512) × Conserves weight old new

@@ -26,7 +26,7 @@ fn item_fits<G: GroupStack>(desks: &Desks<G>, item: &Item) -> bool
     }
 }
 
-// The number of flow groups, each of which has its desks.
+/// The number of flow groups, each of which has its desks.
 pub fn groups<G: GroupStack>(desks: &Desks<G>) -> u16
     ensures { (result ≡ length desks.now.groups) × (result ≡ 512) }
 {

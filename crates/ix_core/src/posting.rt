@@ -1,5 +1,5 @@
 // Free buffers for the card.
-ghost use Rattle.std.specs.Prelude.{OnOk};
+ghost use Rattle.std.specs.Prelude.{◌≡◌, OnOk};
 ghost use Rattle.ix_ring.specs.Ends.{SamePutEnd};
 ghost use Rattle.ix_core.specs.Posting.{Posts};
 
@@ -15,6 +15,7 @@ pub fn post(
     most: usize,
 ) -> Result<(), NoMemory>
     ensures ring { SamePutEnd posted.old posted.new }
+    ensures home { pool.new.home ≡ pool.old.home }
     ensures posts { OnOk result (Posts most pool.old pool.new posted.old posted.new returns.old.items returns.new.items) }
 {
     returns.reserve(1)?;

@@ -2,8 +2,9 @@
 ghost use Rattle.std.specs.Prelude.{◌≡◌, ◌||◌, not};
 ghost use Rattle.ix_core.specs.Turned.{answer_of};
 
+use crate::batch::Batch;
 use crate::connecting::{connect_at, free_flow};
-use crate::dealing::deal_items;
+use crate::dealing::{deal_items, groups};
 use crate::intake::{Stop, take_items};
 use crate::link::{Link, open_links};
 use crate::mesh::{any_waits, drain_all, hear_all, send_all, ship_all};
@@ -23,7 +24,7 @@ use std::collections::VecDeque;
 #[derive(Drop)]
 pub struct Core<G: GroupStack> {
     /// The most frames that it takes, and steps, in one turn.
-    pub batch: u16,
+    pub batch: Batch,
     /// Whether it has found no memory.
     pub failed: bool,
     /// Where its memory comes from.
@@ -54,6 +55,7 @@ impl<G: GroupStack> Core<G> {
     ghost use Rattle.ix_core.specs.Connecting.{Connects};
     ghost use Rattle.ix_core.specs.Cores.{CoreBecame, IsOpened, LeavesNothing, Ran, SameEnds};
     ghost use Rattle.ix_core.specs.Turned.{Turned, WasIdle};
+    ghost use Rattle.ix_core.specs.Weights.{WeighsTheSame};
     ghost use Rattle.ix_run.specs.declared.actors.Turn.TheVariants.{Idle};
 
     /// A core at the opening of a play: its pool, of which every buffer is free, the flow groups that are at home here, and its ends of rings
@@ -79,9 +81,11 @@ impl<G: GroupStack> Core<G> {
             mesh,
         } = ends;
         let desks = Desks::new(alloc, id, home)?;
+        // asked for what it says of the desks alone
+        let _groups = groups(&desks);
         let links = open_links(alloc, mesh)?;
         Ok(Core {
-            batch,
+            batch: Batch::new(batch),
             failed: false,
             alloc,
             pool,
@@ -102,9 +106,9 @@ impl<G: GroupStack> Core<G> {
         ensures ran { OnOk result (Ran G.counted G.name G.stepped G.advanced G.drained env.now self.old self.new) }
         ensures parts { IfOk result (λ turn. Turned G.counted G.name G.stepped G.advanced G.drained env.now turn self.old self.new) }
         ensures nothing { OnOk result (LeavesNothing self.new) }
-        ensures idle { 1 ≤ self.old.batch → IfOk result (λ turn. turn ≡ Idle → WasIdle self.old self.new) }
+        ensures idle { IfOk result (λ turn. turn ≡ Idle → WasIdle self.old self.new) }
     {
-        let batch = usize::from(self.batch);
+        let batch = self.batch.frames();
         let heard = hear_all(&mut self.links, &mut self.desks, env, &mut self.returns)?;
         let (stop, taken) = take_items(&mut self.items, &mut self.came, batch)?;
         deal_items(&mut self.desks, env, &mut self.came)?;
@@ -132,7 +136,7 @@ impl<G: GroupStack> Core<G> {
         ensures failed { self.new.failed ≡ (self.old.failed || is_err result) }
         ensures parts { IfOk result (λ turn. Turned G.counted G.name G.stepped G.advanced G.drained env.now turn self.old self.new) }
         ensures nothing { OnOk result (LeavesNothing self.new) }
-        ensures idle { 1 ≤ self.old.batch → IfOk result (λ turn. turn ≡ Idle → WasIdle self.old self.new) }
+        ensures idle { IfOk result (λ turn. turn ≡ Idle → WasIdle self.old self.new) }
         ensures again { self.old.failed ≡ true → IsErr result }
     {
         if self.failed {
@@ -161,6 +165,7 @@ impl<G: GroupStack> Core<G> {
         ensures answer { IfOk result (λ ret. Connects G.neighbour G.flow_from G.holds G.connected env.now cookie ip port ret self.old self.new) }
         ensures failed { self.new.failed ≡ (self.old.failed || is_err result) }
         ensures again { self.old.failed ≡ true → IsErr result }
+        ensures weights { OnOk result (WeighsTheSame G.weight self.old self.new) }
     {
         if self.failed {
             return Err(NoMemory);

@@ -1,6 +1,6 @@
 use Rattle.std.specs.Prelude.{◌||◌, nat_lt, not}
 use Rattle.std.specs.List.{list_any}
-use Rattle.std.proofs.Common.{◌≡◌, ◌<◌, ◌-◌, Bool, ◌++◌, ◌∙◌, ap, false, map, sum_by, sym, true, subst, ℕ}
+use Rattle.std.proofs.Common.{◌≡◌, ◌<◌, ◌≤◌, ◌-◌, Bool, ◌++◌, ◌∙◌, ap, false, map, sum_by, sym, true, subst, ℕ}
 use Rattle.ix_desk.specs.Pieces.{joined}
 use Rattle.ix_desk.specs.Steps.{AllWorked, group_leaves, leave}
 use Rattle.ix_core.specs.Landing.{parcel_of}
@@ -8,6 +8,7 @@ use Rattle.ix_core.specs.Links.{all_out, all_put, all_taken, homes_weight, link_
 use Rattle.ix_core.specs.Runs.{run-worked}
 use Rattle.ix_core.specs.Taking.{Takes}
 use Rattle.ix_core.specs.Turned.{answer_of}
+use Rattle.ix_core.proofs.Aside.{aside_stays}
 use Rattle.ix_core.proofs.Turns.{arrivals, frames_taken, heard_up, homes_same, quiet_so, run_failed, turn_weighs, unfailed, whole_links, whole_run}
 use Rattle.ix_core.proofs.Idling.{idle_so}
 use Rattle.ix_core.proofs.Units.{calm_rests}
@@ -53,12 +54,13 @@ returns-clause-parts g c =
     let d = c.in_ok-deal_items.ensures in
     let r = c.in_ok-drain_all.ensures.drained in
     let s = c.in_ok-ship_all.ensures.leaves in
+    let worked = run-worked g.G.Unit.counted g.G.Unit.name g.G.Unit.stepped g.G.Unit.advanced g.G.GroupStack.drained c.args.env.now _ _ _ c.in_ok-frames.ensures.worked in
     let told : c.told.result ≡ answer_of c.in_ok-stop.stop c.in_ok-stop.taken c.is_quiet-quiet.result c.in_ok-frames.frames = c.told.ensures in
     record {
       stop = c.in_ok-stop.stop;
       count = c.in_ok-stop.taken;
       came = c.take_items.new.came.items;
-      takes = subst (λ (n : ℕ). Takes n c.in_ok-stop.stop c.in_ok-stop.taken old.items c.take_items.new.items old.came.items c.take_items.new.came.items) c.from-batch.ensures c.in_ok-stop.ensures.took;
+      takes = subst (λ (n : ℕ). Takes n c.in_ok-stop.stop c.in_ok-stop.taken old.items c.take_items.new.items old.came.items c.take_items.new.came.items) c.frames-batch.ensures.is c.in_ok-stop.ensures.took;
       hears = heard_up _ _ _ (c.send_all.ensures.takes ∙ s.takes ∙ r.takes) h.stops;
       ins = h.ins;
       dealt = d.items;
@@ -66,10 +68,12 @@ returns-clause-parts g c =
       arrives = arrivals g.G.Unit.counted g.G.Unit.name g.G.Unit.stepped g.G.Unit.advanced g.G.GroupStack.drained c.args.env.now _ _ _ _ _ h.run d.run;
       queue = d.whole;
       waits = d.waits;
+      aside = aside_stays g.G.Unit.counted g.G.Unit.name g.G.Unit.stepped g.G.Unit.advanced g.G.GroupStack.drained c.args.env.now _ _ _ _ _ _ _ _ _ _ _ _ _
+          d.run worked r.run s.run r.links s.links c.send_all.ensures.sent r.takes s.takes c.send_all.ensures.takes h.aside;
       done = c.work.new.self;
-      works = subst (λ (n : ℕ). AllWorked g.G.Unit.counted g.G.Unit.name g.G.Unit.stepped g.G.Unit.advanced c.args.env.now c.deal_items.new.desks.core n c.deal_items.new.desks c.work.new.self) c.from-batch.ensures c.in_ok-frames.ensures.worked;
+      works = subst (λ (n : ℕ). AllWorked g.G.Unit.counted g.G.Unit.name g.G.Unit.stepped g.G.Unit.advanced c.args.env.now c.deal_items.new.desks.core n c.deal_items.new.desks c.work.new.self) c.frames-batch.ensures.is c.in_ok-frames.ensures.worked;
       frames = c.in_ok-frames.frames;
-      number = c.in_ok-frames.ensures.count ∙ ap (λ (n : ℕ). n - leave (group_leaves g.G.Unit.counted) n c.deal_items.new.desks.groups) c.from-batch.ensures;
+      number = c.in_ok-frames.ensures.count ∙ ap (λ (n : ℕ). n - leave (group_leaves g.G.Unit.counted) n c.deal_items.new.desks.groups) c.frames-batch.ensures.is;
       frees = r.frees;
       empty = c.drain_all.new.desks;
       drains = r.run;
@@ -78,7 +82,7 @@ returns-clause-parts g c =
       leaves = s.run;
       rest = λ less.
           calm_rests g.G.Unit.counted g.G.Unit.name g.G.Unit.stepped g.G.Unit.advanced g.G.GroupStack.drained c.args.env.now _ _ _ _ s.run
-          (calm_rests g.G.Unit.counted g.G.Unit.name g.G.Unit.stepped g.G.Unit.advanced g.G.GroupStack.drained c.args.env.now _ _ _ _ r.run (c.in_ok-frames.ensures.done (subst (λ (n : ℕ). c.in_ok-frames.frames < n) (sym c.from-batch.ensures) less)));
+          (calm_rests g.G.Unit.counted g.G.Unit.name g.G.Unit.stepped g.G.Unit.advanced g.G.GroupStack.drained c.args.env.now _ _ _ _ r.run (c.in_ok-frames.ensures.done (subst (λ (n : ℕ). c.in_ok-frames.frames < n) (sym c.frames-batch.ensures.is) less)));
       answer = told
           ∙ ap (λ (b : Bool). answer_of c.in_ok-stop.stop c.in_ok-stop.taken b c.in_ok-frames.frames)
           (c.is_quiet-quiet.ensures ∙ quiet_so _ _ _ old.links.items c.hear_all.new.links.items c.ship_all.new.links.items c.send_all.new.links.items h.came (c.any_waits-waits.ensures ∙ ap (list_any link_waits) c.as_slice.ensures.value)
@@ -98,5 +102,6 @@ returns-clause-nothing g c =
     }
 
 pub returns-clause-idle : goal.returns-clause-idle
-returns-clause-idle g c = λ some is.
+returns-clause-idle g c = λ is.
+    let some : 1 ≤ c.args.self.now.batch = subst (λ (n : ℕ). 1 ≤ n) c.frames-batch.ensures.is c.frames-batch.ensures.some in
     idle_so g.G.Unit.counted g.G.Unit.name g.G.Unit.stepped g.G.Unit.advanced g.G.GroupStack.drained c.args.env.now _ _ _ some (returns-clause-parts g c) (returns-clause-ran g c) (returns-clause-nothing g c) is
