@@ -7,10 +7,11 @@ use Rattle.std.proofs.lemmas.Bool.{cases_eq}
 use Rattle.std.proofs.lemmas.List.{get_or-append_right, get_or-set_other, get_or_append_left, map-append, take_all}
 use Rattle.std.proofs.lemmas.List.Sums.{sum_by-append, sum_by-cons}
 use Rattle.ix_base.specs.declared.id.BufId.{BufId}
+use Rattle.ix_base.specs.declared.id.CoreId.{CoreId}
 use Rattle.ix_base.specs.declared.id.GroupId.{GroupId}
 use Rattle.ix_mbuf.specs.declared.name.Name.{Name}
 use Rattle.ix_mbuf.specs.Buffers.{Buffer, buffers_weight}
-use Rattle.ix_mbuf.specs.Owners.{one_if, times}
+use Rattle.ix_mbuf.specs.Owners.{at_home, one_at, one_if, times}
 use Rattle.ix_mbuf.specs.Pools.{all_names, is_out_of}
 use Rattle.ix_ring.specs.Ends.{known, taken, SameTakeEnd}
 use Rattle.ix_desk.specs.Pieces.{joined}
@@ -23,12 +24,12 @@ use Rattle.ix_nic.specs.Offers.{unkept}
 use Rattle.ix_nic.specs.Ports.{PortView, kept_count, posted_now}
 use Rattle.ix_core.specs.declared.closing.Closed.{Closed}
 use Rattle.ix_core.specs.declared.turning.Core.{Core}
-use Rattle.ix_core.specs.Closing.{AllAreRecalled, AllFinished, CanClose, Closes, CoreClosed, DesksEnded, FewArePosted, Finishes, GroupEnded, GroupEnds, GroupsEnd, NothingWaits, PoolsAre, Recalled, RecallsSome, close_weight, port_holds, units_below, units_here, units_of}
+use Rattle.ix_core.specs.Closing.{AllAreOwn, AllAreRecalled, AllFinished, CanClose, Closes, CoreClosed, DesksEnded, FewArePosted, Finishes, GroupEnded, GroupEnds, GroupsEnd, NothingWaits, PoolsAre, Recalled, RecallsSome, close_weight, port_holds, units_below, units_here, units_of}
 use Rattle.ix_core.specs.Homing.{AllHomed, AreNumbered, CoreEmptied, CoreHomed, EachIs, GatheredSome, NoneOut, Passed, core_returns, stock_weight}
 use Rattle.ix_core.specs.Renewing.{posted_count}
 use Rattle.ix_core.proofs.LinkLaws.{get_any}
 use Rattle.ix_core.proofs.Homings.{joined_more, nil_left, nil_right, passed_more, read_first, took_all, took_bufs, took_known, took_more, took_none}
-use Rattle.ix_core.proofs.Renewals.{posted_is, sum_same}
+use Rattle.ix_core.proofs.Renewals.{posted_is, sum_only, sum_same}
 use Rattle.ix_core.proofs.Settlings.{none_kept, numbers_emptied, slots_emptied, slots_homed, weight_emptied}
 
 pub head_of : {X : Type 0} (xs : List X) (i : ℕ) → i < length xs → X
@@ -284,7 +285,7 @@ module _ {U E : Type 0} where
 
   -- ## Pools
   pub pools_none : (pools : List ℕ) (cores : List (Core U E)) → pools ≡ [] → PoolsAre 0 pools cores
-  pools_none pools cores none = record { count = ap length none; each = λ c d m lt. absurd (omega arith) }
+  pools_none pools cores none = record { count = ap length none; each = λ c d m lt. absurd (omega arith); own = λ c d lt. absurd (omega arith); foreign = λ c d home lt apart. absurd (omega arith) }
 
   pools_at : (i : ℕ) (pools : List ℕ) (cores : List (Core U E)) (n : ℕ) → ((d : Core U E) → n ≡ length (get_or cores i d).pool.free) → PoolsAre i pools cores → (c : ℕ) (d : Core U E) (m : ℕ) → c < i + 1
       → (c ≡ i) ⊎ (c ≢ i) → get_or (pools ++ n ∷ []) c m ≡ length (get_or cores c d).pool.free
@@ -294,12 +295,20 @@ module _ {U E : Type 0} where
       get_or-append_right pools (n ∷ []) (length pools) c m refl (omega arith) ∙ ap (λ k. get_or (n ∷ []) k m) first ∙ one d ∙ ap (λ k. length (get_or cores k d).pool.free) (sym here)
   pools_at i pools cores n one so c d m lt (inr apart) = get_or_append_left pools (n ∷ []) m c (omega (arith, so.count)) ∙ so.each c d m (omega arith)
 
+  -- one more core, of which something holds
+  pool_at : (P : Core U E → Type 0) (i : ℕ) (cores : List (Core U E)) (x : Core U E) → i < length cores → x ≡ get_or cores i x → P x → ((c : ℕ) (d : Core U E) → c < i → P (get_or cores c d)) → (c : ℕ) (d : Core U E)
+      → c < i + 1 → (c ≡ i) ⊎ (c ≢ i) → P (get_or cores c d)
+  pool_at P i cores x lt read one so c d below (inl here) = subst (λ (k : ℕ). P (get_or cores k d)) (sym here) (subst P (read ∙ get_any cores i x d lt) one)
+  pool_at P i cores x lt read one so c d below (inr apart) = so c d (omega arith)
+
   pub pools_more : (i : ℕ) (pools after : List ℕ) (cores : List (Core U E)) (x : Core U E) (n : ℕ) → i < length cores → x ≡ get_or cores i x → after ≡ pools ++ n ∷ [] → n ≡ length x.pool.free
-      → PoolsAre i pools cores → PoolsAre (i + 1) after cores
-  pools_more i pools after cores x n lt read is one so = record {
+      → at_home x.pool.home.0 x.pool.free ≡ n → ((home : ℕ) → home ≢ x.pool.home.0 → at_home home x.pool.free ≡ 0) → PoolsAre i pools cores → PoolsAre (i + 1) after cores
+  pools_more i pools after cores x n lt read is one own foreign so = record {
     count = omega (arith, ap length is, length-append pools (n ∷ []), so.count);
     each = λ c d m below. ap (λ (l : List ℕ). get_or l c m) is
         ∙ pools_at i pools cores n (λ e. one ∙ ap (λ (k : Core U E). length k.pool.free) (read ∙ get_any cores i x e lt)) so c d m below (cases_eq c i);
+    own = λ c d below. pool_at (λ (k : Core U E). at_home k.pool.home.0 k.pool.free ≡ length k.pool.free) i cores x lt read (own ∙ one) so.own c d below (cases_eq c i);
+    foreign = λ c d home below. pool_at (λ (k : Core U E). home ≢ k.pool.home.0 → at_home home k.pool.free ≡ 0) i cores x lt read (foreign home) (λ k e less. so.foreign k e home less) c d below (cases_eq c i);
   }
 
   -- ## All together
@@ -349,6 +358,22 @@ module _ {U E : Type 0} where
       sum_same (λ (v : Core U E). times id (all_names v.pool.home v.pool.n)) (λ (v : Core U E). times id (all_names v.pool.home v.pool.n)) x y so.count
       (λ k d lt. ap (λ (c : Core U E). times id (all_names c.pool.home c.pool.n)) (so.each k d lt).rest)
 
+  -- a pool is full where all its buffers are in pools, and in no other
+  full_so : (n : ℕ) (home : CoreId) (f : Name → ℕ) (w : List (Core U E)) (c : ℕ) (d : Core U E) → f ≡ one_at home.0 → (get_or w c d).pool.home ≡ home → c < length w
+      → ((k : ℕ) (e : Core U E) → k < length w → (get_or w k e).returns.items ≡ []) → ((k : ℕ) (e : Core U E) → k < length w → (get_or w k e).pool.home.0 ≡ k)
+      → at_home (get_or w c d).pool.home.0 (get_or w c d).pool.free ≡ length (get_or w c d).pool.free
+      → ((k : ℕ) (e : Core U E) (h : ℕ) → k < length w → h ≢ (get_or w k e).pool.home.0 → at_home h (get_or w k e).pool.free ≡ 0)
+      → sum_by (stock_weight f) w ≡ n → length (get_or w c d).pool.free ≡ n
+  full_so n home f w c d weighs is lt none numbers own foreign whole =
+      let place : home.0 ≡ c = sym (ap (λ (h : CoreId). h.0) is) ∙ numbers c d lt in
+      let others : (k : ℕ) (e : Core U E) → k < length w → k ≢ c → stock_weight f (get_or w k e) ≡ 0 = λ k e less apart.
+      let free : sum_by f (get_or w k e).pool.free ≡ 0 = ap (λ (g : Name → ℕ). sum_by g (get_or w k e).pool.free) weighs ∙ foreign k e home.0 less (λ same. apart (omega (arith, same, place, numbers k e less))) in
+      omega (arith, free, ap (buffers_weight f) (none k e less)) in
+      let one = sum_only (stock_weight f) w c d lt others in
+      let here : sum_by f (get_or w c d).pool.free ≡ length (get_or w c d).pool.free =
+      ap (λ (g : Name → ℕ). sum_by g (get_or w c d).pool.free) weighs ∙ ap (λ (h : CoreId). at_home h.0 (get_or w c d).pool.free) (sym is) ∙ own in
+      omega (arith, one, here, whole, ap (buffers_weight f) (none c d lt))
+
   pub closes_so : (finished : U → List Buffer → U → Type 0) (weight : (Name → ℕ) → U → ℕ)
       → ((f : Name → ℕ) (u : U) (bufs : List Buffer) (v : U) → finished u bufs v → (buffers_weight f bufs ≡ weight f u) × (weight f v ≡ 0))
       → (closed : Closed U E) (card card' : CardView) (x y v w : List (Core U E)) (gs : List (GroupId × U)) (b1 b2 b3 : List Buffer) → CanClose card x → EachIs CoreEmptied x y → b1 ≡ joined core_returns x
@@ -363,8 +388,13 @@ module _ {U E : Type 0} where
     };
     groups = (ended.finishes.out, all);
     whole = whole;
-    none = λ own c d lt. none_kept w (homed.none (none_ended 512 x y v empty ended.each)) (λ id. omega (arith, whole (one_if id), own id, slots id)) c d (omega (arith, lt, count));
+    none = λ own c d lt. none own c d (omega (arith, lt, count));
     pools = subst (λ n. PoolsAre n closed.pools.items w) count pools;
+    full = λ own there c d m lt.
+        let within : c < length w = omega (arith, lt, count) in
+        pools.each c d m within
+        ∙ full_so (get_or x c d).pool.n (get_or x c d).pool.home (one_at (get_or x c d).pool.home.0) w c d refl (homes c d lt) within (λ k e less. none own k e less) (λ k e less. numbers k e less) (pools.own c d within) (λ k e h less apart. pools.foreign k e h less apart)
+        (whole (one_at (get_or x c d).pool.home.0) ∙ there c d lt);
   } where
     count : length w ≡ length x
     count = homed.count ∙ ended.each.count ∙ empty.count
@@ -395,6 +425,17 @@ module _ {U E : Type 0} where
 
     slots : (id : BufId) → sum_by (λ (c : Core U E). times id (all_names c.pool.home c.pool.n)) w ≡ sum_by (λ (c : Core U E). times id (all_names c.pool.home c.pool.n)) x
     slots id = slots_homed id v w b3 homed ∙ slots_ended id 512 y v ended.each ∙ slots_emptied id x y empty
+
+    homes : (c : ℕ) (d : Core U E) → c < length x → (get_or w c d).pool.home ≡ (get_or x c d).pool.home
+    homes c d lt =
+        let in_y : c < length y = omega (arith, lt, empty.count) in
+        (homed.cores c d).home ∙ ap (λ (k : Core U E). k.pool.home) (ended.each.each c d in_y).rest ∙ ap (λ (k : Core U E). k.pool.home) (empty.each c d lt).rest
+
+    numbers : (c : ℕ) (d : Core U E) → c < length w → (get_or w c d).pool.home.0 ≡ c
+    numbers c d lt = let within : c < length x = omega (arith, lt, count) in ap (λ (h : CoreId). h.0) (homes c d within) ∙ can.order.numbers c d within
+
+    none : AllAreOwn weight card x → (c : ℕ) (d : Core U E) → c < length w → (get_or w c d).returns.items ≡ []
+    none own c d lt = none_kept w (homed.none (none_ended 512 x y v empty ended.each)) (λ id. omega (arith, whole (one_if id), own id, slots id)) c d lt
 
   -- the number of a core by its place
   pub number_of : (i : ℕ) (cores : List (Core U E)) (x : Core U E) → i < length cores → x ≡ get_or cores i x → AreNumbered cores → x.pool.home.0 ≡ i

@@ -1,10 +1,8 @@
 -- Numbers of buffers that are added up.
-use Rattle.std.proofs.Common.{◌≡◌, ◌≢◌, ◌<◌, ◌≤◌, ◌+◌, ◌-◌, ◌⊎◌, inl, inr, ℕ, zero, suc, List, [], ◌∷◌, ◌++◌, Some, None, length, length-append, get_or, take, sum_by, refl, sym, ap, ◌∙◌, arith}
-use Rattle.std.specs.List.{slice_get}
+use Rattle.std.proofs.Common.{◌≡◌, ◌≢◌, ◌<◌, ◌+◌, ◌-◌, ◌⊎◌, inl, inr, ℕ, List, [], ◌∷◌, ◌++◌, length, length-append, get_or, take, sum_by, refl, sym, ap, ◌∙◌, arith}
 use Rattle.std.proofs.lemmas.Bool.{cases_eq}
-use Rattle.std.proofs.lemmas.List.{get_or-append_right, get_or_append_left, take_all}
+use Rattle.std.proofs.lemmas.List.{get_or-append_right, get_or_append_left}
 use Rattle.std.proofs.lemmas.List.Sums.{sum_by_more}
-use Rattle.std.proofs.lemmas.Option.{get_or_from_slice_get, slice_get_within}
 use Rattle.ix_base.specs.declared.id.Owned.{Owned}
 use Rattle.ix_mbuf.specs.Owners.{one_at}
 use Rattle.ix_desk.specs.Views.{Group}
@@ -24,23 +22,6 @@ capped_plus s k n e = omega (arith, e)
 
 capped_both : (s k n : ℕ) → n ≡ s + k → capped (capped s + capped k) ≡ capped n
 capped_both s k n e = omega (arith, e)
-
-past : {X : Type 0} (xs : List X) (i : ℕ) → slice_get xs i ≡ None → length xs ≤ i
-past [] i e = omega arith
-past (x ∷ xs) zero e = absurd (cc)
-past (x ∷ xs) (suc i) e = let rest = past xs i e in omega (arith, rest)
-
--- one more element of a list
-pub sum_next : {X : Type 0} (w : X → ℕ) (xs : List X) (i : ℕ) (x : X) (n k m : ℕ) → slice_get xs i ≡ Some x → n ≡ capped (sum_by w (take i xs)) → k ≡ w x → m ≡ capped (n + k)
-    → m ≡ capped (sum_by w (take (i + 1) xs))
-sum_next w xs i x n k m here so one more =
-    let lt : i < length xs = slice_get_within xs i x here in
-    let read : get_or xs i x ≡ x = get_or_from_slice_get xs i x x here in
-    let grown : sum_by w (take (i + 1) xs) ≡ sum_by w (take i xs) + k = omega (arith, sum_by_more w xs i x lt, ap w read, one) in
-    more ∙ ap (λ z. capped (z + k)) so ∙ capped_plus (sum_by w (take i xs)) k (sum_by w (take (i + 1) xs)) grown
-
-pub sum_end : {X : Type 0} (w : X → ℕ) (xs : List X) (i : ℕ) (n : ℕ) → slice_get xs i ≡ None → n ≡ capped (sum_by w (take i xs)) → n ≡ capped (sum_by w xs)
-sum_end w xs i n none so = so ∙ ap (λ l. capped (sum_by w l)) (take_all i xs (past xs i none))
 
 -- one more element of a list, of which a number that stands still is added
 sum_capped : {X : Type 0} (w : X → ℕ) (xs : List X) (i : ℕ) (x : X) → i < length xs → x ≡ get_or xs i x

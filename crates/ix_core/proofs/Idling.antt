@@ -1,13 +1,14 @@
 -- A turn that answers that it was idle.
-use Rattle.std.proofs.Common.{◌≡◌, ◌<◌, ◌≤◌, ◌+◌, inl, inr, ℕ, zero, suc, Bool, true, false, List, [], ◌∷◌, ◌++◌, Option, Some, None, length, get_or, sum_by, refl, sym, ap, subst, ◌∙◌, arith, append-nil, length-append}
+use Rattle.std.proofs.Common.{◌≡◌, ◌<◌, ◌≤◌, ◌+◌, inl, inr, ℕ, zero, suc, Bool, true, false, List, [], ◌∷◌, ◌++◌, Option, Some, None, length, map, get_or, sum_by, refl, sym, ap, subst, ◌∙◌, arith, append-nil, length-append}
 use Rattle.std.specs.Prelude.{◌==◌, ◌&&◌, ◌||◌, count_by, if◌then◌else◌, is_some, nat_lt, not}
 use Rattle.std.specs.List.{list_any}
 use Rattle.std.proofs.lemmas.Bool.Decides.{nat_tests}
+use Rattle.std.proofs.lemmas.List.{length-map}
 use Rattle.std.proofs.lemmas.List.Sums.{sum_by-cons}
 use Rattle.ix_mbuf.specs.Buffers.{Buffer}
 use Rattle.ix_ring.specs.Ends.{known, put_list, taken}
-use Rattle.ix_desk.specs.Pieces.{is_nil, piece_has_work, ready}
-use Rattle.ix_desk.specs.Views.{CutPiece, Group, Piece}
+use Rattle.ix_desk.specs.Pieces.{is_nil, joined, piece_has_work, ready}
+use Rattle.ix_desk.specs.Views.{CutPiece, Group, Piece, View}
 use Rattle.ix_desk.specs.Groups.{current_has_work, cut_has_work, group_has_work}
 use Rattle.ix_desk.specs.Steps.{current_leaves, cut_leaves, group_leaves, leave, piece_leaves, up_to}
 use Rattle.ix_run.specs.declared.actors.Turn.{Turn}
@@ -18,9 +19,16 @@ use Rattle.ix_core.specs.declared.intake.Stop.TheVariants.{Full, Empty, Control}
 use Rattle.ix_core.specs.declared.link.Link.{Link}
 use Rattle.ix_core.specs.declared.turning.Core.{Core}
 use Rattle.ix_core.specs.Cores.{LeavesNothing, Ran}
-use Rattle.ix_core.specs.Links.{HeardUp, LinkRan, all_out, all_put, all_taken, cores_of}
+use Rattle.ix_history.specs.Events.{Event, Happened, Parcel, came, gone, lent, took, worked}
+use Rattle.ix_history.specs.Items.{handed_out, taken_in}
+use Rattle.ix_history.specs.Run.{landed_in, shipped_in}
+use Rattle.ix_history.specs.Runs.{Runs}
+use Rattle.ix_core.specs.Landing.{parcel_of, ship_in}
+use Rattle.ix_core.specs.Links.{HeardUp, LinkRan, LinksRan, all_out, all_put, all_taken, cores_of, is_first, is_known, parcel_lost, parcel_to}
+use Rattle.ix_core.specs.Runs.{Calm, works_in}
 use Rattle.ix_core.specs.Taking.{StopsAt}
-use Rattle.ix_core.specs.Turned.{LinkWasIdle, Turned, WasIdle, answer_of}
+use Rattle.ix_core.specs.Turned.{AreDrained, LinkWasIdle, Turned, WasIdle, answer_of}
+use Rattle.ix_core.proofs.Renewals.{nothing_left}
 use Rattle.ix_core.proofs.Units.{either_left, either_right, no_items}
 
 -- ## The answer
@@ -119,6 +127,73 @@ module _ {U E : Type 0} where
         put = r.grown ∙ ap (λ l. put_list x.put ++ l) none ∙ append-nil _;
         waits = no_items y.waiting.items (omega (arith, out, ap length r.grown, length-append (put_list x.put) r.puts));
       }
+
+-- ## Flow groups that left
+record FirstAt (cores : List ℕ) (core : ℕ) : Type 0 where
+  place : ℕ
+  within : place < length cores
+  first : is_first cores place core ≡ true
+
+first_case : (c : ℕ) (cores : List ℕ) (core : ℕ) (b : Bool) → (c == core) ≡ b → (is_known cores core ≡ true → FirstAt cores core) → (b || is_known cores core) ≡ true → FirstAt (c ∷ cores) core
+first_case c cores core true is rest e = record { place = 0; within = omega arith; first = is }
+first_case c cores core false is rest e =
+    let found = rest e in
+    record { place = suc found.place; within = omega (arith, found.within); first = ap (λ b. not b && is_first cores found.place core) is ∙ found.first }
+
+first_at : (cores : List ℕ) (core : ℕ) → is_known cores core ≡ true → FirstAt cores core
+first_at [] core e = absurd (cc)
+first_at (c ∷ cores) core e = first_case c cores core (c == core) refl (first_at cores core) e
+
+some_of : {X : Type 0} (xs : List X) → 0 < length xs → X
+some_of [] lt = absurd (omega arith)
+some_of (x ∷ xs) lt = x
+
+module _ {U E : Type 0} where
+  none_sent : (cores : List ℕ) (i : ℕ) (ins : List (ℕ × Parcel U Work)) (bufs : List Buffer) (outs : List (Parcel U Work)) (x y : Link U E) → LinkRan cores i ins bufs outs x y → LinkWasIdle x y → joined (parcel_to cores i) outs ≡ []
+  none_sent cores i ins bufs outs x y r idle =
+      let sizes : length (put_list y.put) + length y.waiting.items ≡ length (put_list x.put) + (length x.waiting.items + length r.sent) =
+      omega (arith, ap length r.put, length-append (put_list y.put) y.waiting.items, length-append (put_list x.put) (x.waiting.items ++ r.sent), length-append x.waiting.items r.sent) in
+      let none : r.sent ≡ [] = no_items r.sent (omega (arith, sizes, ap length idle.put, ap length idle.waits)) in
+      sym r.shipments ∙ ap (λ ms. map parcel_of (joined ship_in ms)) none
+
+  -- where nothing was put on the mesh and none left for a core that isn't there, none left
+  none_left : (ins : List (ℕ × Parcel U Work)) (bufs : List Buffer) (outs : List (Parcel U Work)) (old new : List (Link U E)) → LinksRan ins bufs outs old new
+      → ((i : ℕ) (d : Link U E) → i < length old → LinkWasIdle (get_or old i d) (get_or new i d)) → joined (parcel_lost (cores_of old)) outs ≡ [] → outs ≡ []
+  none_left ins bufs [] old new ran idle lost = refl
+  none_left ins bufs (s ∷ outs) old new ran idle lost = absurd (here (is_known (cores_of old) s.to) refl) where
+    here : (b : Bool) → is_known (cores_of old) s.to ≡ b → ⊥
+    here false is =
+        let kept : joined (parcel_lost (cores_of old)) (s ∷ outs) ≡ s ∷ joined (parcel_lost (cores_of old)) outs = ap (λ b. (if b then [] else s ∷ []) ++ joined (parcel_lost (cores_of old)) outs) is in
+        cc
+    here true is =
+        let place = first_at (cores_of old) s.to is in
+        let within : place.place < length old = omega (arith, place.within, length-map old (λ (l : Link U E). l.core.0)) in
+        let d = some_of old (omega (arith, within)) in
+        let none = none_sent (cores_of old) place.place ins bufs (s ∷ outs) (get_or old place.place d) (get_or new place.place d) (ran.each place.place d within) (idle place.place d within) in
+        let sent : joined (parcel_to (cores_of old) place.place) (s ∷ outs) ≡ s ∷ joined (parcel_to (cores_of old) place.place) outs = ap (λ b. (if b then s ∷ [] else []) ++ joined (parcel_to (cores_of old) place.place) outs) place.first in
+        cc
+
+module _ {U E : Type 0} (counted : Work → Bool) (name : Work → ℕ) (stepped : U → List (ℕ × ℕ)) (advanced : U → E → ℕ → List Work → U → Type 0) (drained : U → List Buffer → U → Type 0) (env : E) where
+  -- desks to which nothing happened
+  still : (x y : View U Work) → Calm counted name stepped advanced drained env x y [] [] [] [] → y ≡ x
+  still x y calm = none calm.run.events calm.calm calm.run.runs calm.run.took_all calm.run.landed_all calm.run.handed_all calm.run.shipped_all where
+    none : (es : List (Event U Work (List Buffer))) → works_in es ≡ [] → Runs (Happened counted name stepped advanced drained env) x es y → taken_in es ≡ [] → landed_in es ≡ [] → handed_out es ≡ [] → shipped_in es ≡ [] → y ≡ x
+    none [] w r t l h s = r
+    none (took it ∷ es) w r t l h s = absurd (cc)
+    none (came c p ∷ es) w r t l h s = absurd (cc)
+    none (worked max ∷ es) w r t l h s = absurd (cc)
+    none (gone p ∷ es) w r t l h s = absurd (cc)
+    none (lent g u out v ∷ es) w r t l h s = absurd (cc)
+
+  -- A core that was idle and kept no flow group for a core that isn't there has handed out all that its flow groups don't need.
+  pub idle_drained : (x y : Core U E) (empty : View U Work) (ins : List (ℕ × Parcel U Work)) (bufs : List Buffer) (outs : List (Parcel U Work)) → LinksRan ins bufs outs x.links.items y.links.items
+      → map parcel_of y.lost.items ≡ map parcel_of x.lost.items ++ joined (parcel_lost (cores_of x.links.items)) outs → WasIdle x y
+      → Calm counted name stepped advanced drained env empty y.desks [] [] [] outs → AreDrained drained empty → y.lost.items ≡ x.lost.items → AreDrained drained y.desks
+  idle_drained x y empty ins bufs outs links lost idle leaves clean same =
+      let none_lost : joined (parcel_lost (cores_of x.links.items)) outs ≡ [] = nothing_left (map parcel_of x.lost.items) (joined (parcel_lost (cores_of x.links.items)) outs) (sym (ap (λ l. map parcel_of l) same) ∙ lost) in
+      let none : outs ≡ [] = none_left ins bufs outs x.links.items y.links.items links idle.links none_lost in
+      let stays : y.desks ≡ empty = still empty y.desks (subst (λ l. Calm counted name stepped advanced drained env empty y.desks [] [] [] l) none leaves) in
+      subst (λ v. AreDrained drained v) (sym stays) clean
 
 module _ {U E : Type 0} (counted : Work → Bool) (name : Work → ℕ) (stepped : U → List (ℕ × ℕ)) (advanced : U → E → ℕ → List Work → U → Type 0) (drained : U → List Buffer → U → Type 0) (env : E) where
   pub idle_so : (turn : Turn) (x y : Core U E) → 1 ≤ x.batch → Turned counted name stepped advanced drained env turn x y → Ran counted name stepped advanced drained env x y → LeavesNothing y

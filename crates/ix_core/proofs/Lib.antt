@@ -13,6 +13,8 @@ pub mod LinkLaws
 pub mod Meetings
 pub mod Openings
 pub mod Orders
+pub mod Pools
+pub mod Postings
 pub mod Renewals
 pub mod Returns
 pub mod Settlings

@@ -5,8 +5,10 @@ use Rattle.std.proofs.lemmas.Bool.{cases_eq}
 use Rattle.std.proofs.lemmas.List.{append_cancel_left, get_or-append_right, get_or-set_other, get_or-set_same, get_or_append_left}
 use Rattle.std.proofs.lemmas.List.Sums.{sum_by-append, sum_by-cons, sum_by_push}
 use Rattle.ix_base.specs.Places.{sum_by-changed}
+use Rattle.ix_base.specs.declared.id.BufId.{BufId}
 use Rattle.ix_mbuf.specs.Buffers.{Buffer, buffers_weight}
-use Rattle.ix_mbuf.specs.Pools.{Stock}
+use Rattle.ix_mbuf.specs.Owners.{one_if, times}
+use Rattle.ix_mbuf.specs.Pools.{Stock, all_names}
 use Rattle.ix_ring.specs.Views.{PutView, TakeView}
 use Rattle.ix_ring.specs.Ends.{SamePutEnd, known, places, put_list, spare, taken}
 use Rattle.ix_stack.specs.declared.item.Item.{Item}
@@ -17,6 +19,7 @@ use Rattle.ix_nic.specs.Ports.{PortView, kept_count, posted_now}
 use Rattle.ix_core.specs.declared.turning.Core.{Core}
 use Rattle.ix_core.specs.Renewing.{AreCounts, AreRenewed, AreResting, Fills, FillsSome, IsResting, Renewed, RenewedSome, free_weight, posted_count, posted_weight}
 use Rattle.ix_core.proofs.LinkLaws.{get_any}
+use Rattle.ix_core.proofs.Pools.{all_of_pool, names_of_pool}
 
 -- ## Sums over two lists
 pub sum_same : {X : Type 0} (w v : X → ℕ) (xs ys : List X) → length ys ≡ length xs → ((k : ℕ) (d : X) → k < length xs → w (get_or ys k d) ≡ v (get_or xs k d)) → sum_by w ys ≡ sum_by v xs
@@ -35,6 +38,17 @@ sum_one w (x ∷ xs) (y ∷ ys) zero d len lt off =
 sum_one w (x ∷ xs) (y ∷ ys) (suc i) d len lt off =
     let first : w y ≡ w x = ap w (off 0 y (λ is. omega arith)) in
     omega (arith, first, sum_by-cons w x xs, sum_by-cons w y ys, sum_one w xs ys i d (omega arith) (omega arith) (λ k e apart. off (suc k) e (λ is. apart (omega arith))))
+
+sum_zero : {X : Type 0} (w : X → ℕ) (xs : List X) → ((k : ℕ) (e : X) → k < length xs → w (get_or xs k e) ≡ 0) → sum_by w xs ≡ 0
+sum_zero w [] none = refl
+sum_zero w (x ∷ xs) none = omega (arith, sum_by-cons w x xs, none 0 x (omega arith), sum_zero w xs (λ k e lt. none (suc k) e (omega arith)))
+
+-- a sum of which one element alone counts
+pub sum_only : {X : Type 0} (w : X → ℕ) (xs : List X) (i : ℕ) (d : X) → i < length xs → ((k : ℕ) (e : X) → k < length xs → k ≢ i → w (get_or xs k e) ≡ 0) → sum_by w xs ≡ w (get_or xs i d)
+sum_only w [] i d lt off = absurd (omega arith)
+sum_only w (x ∷ xs) zero d lt off = omega (arith, sum_by-cons w x xs, sum_zero w xs (λ k e less. off (suc k) e (omega arith) (λ is. omega arith)))
+sum_only w (x ∷ xs) (suc i) d lt off =
+    omega (arith, sum_by-cons w x xs, off 0 x (omega arith) (λ is. omega arith), sum_only w xs i d (omega arith) (λ k e less apart. off (suc k) e (omega arith) (λ is. apart (omega arith))))
 
 -- ## Free buffers that are posted
 pub fills_none : (pool : Stock) (old : PutView Buffer) → FillsSome 0 pool pool old old
@@ -62,25 +76,29 @@ fills_more i pool p p' old cur next b free is put room so = record {
   weight = λ f. omega (arith, so.weight f, ap (sum_by f) free, sum_by_push f p'.free b.name, sum_by_push (λ (z : Buffer). f z.name) so.posts b);
 }
 
-pub fills_done : (i most : ℕ) (pool p : Stock) (old cur : PutView Buffer) → i ≡ most → FillsSome i pool p old cur → Fills most pool p old cur
-fills_done i most pool p old cur is so = record {
+pub fills_done : (i most : ℕ) (pool p : Stock) (old cur : PutView Buffer) → i ≡ most → ((id : BufId) → times id pool.free ≤ times id (all_names pool.home pool.n)) → FillsSome i pool p old cur → Fills most pool p old cur
+fills_done i most pool p old cur is own so = record {
   posts = so.posts;
   number = omega (arith, so.number, so.left, is);
   home = so.home;
   slots = so.slots;
   put = so.put;
   left = omega (arith, so.left, so.number);
+  own = all_of_pool pool so.posts (λ id. omega (arith, own id, so.weight (one_if id)));
+  still = names_of_pool pool p.free (λ id. omega (arith, own id, so.weight (one_if id)));
   weight = so.weight;
 }
 
-pub fills_out : (i most : ℕ) (pool p : Stock) (old cur : PutView Buffer) → i < most → p.free ≡ [] → FillsSome i pool p old cur → Fills most pool p old cur
-fills_out i most pool p old cur lt none so = record {
+pub fills_out : (i most : ℕ) (pool p : Stock) (old cur : PutView Buffer) → i < most → p.free ≡ [] → ((id : BufId) → times id pool.free ≤ times id (all_names pool.home pool.n)) → FillsSome i pool p old cur → Fills most pool p old cur
+fills_out i most pool p old cur lt none own so = record {
   posts = so.posts;
   number = omega (arith, so.number, so.left, lt, ap length none);
   home = so.home;
   slots = so.slots;
   put = so.put;
   left = omega (arith, so.left, so.number);
+  own = all_of_pool pool so.posts (λ id. omega (arith, own id, so.weight (one_if id)));
+  still = names_of_pool pool p.free (λ id. omega (arith, own id, so.weight (one_if id)));
   weight = so.weight;
 }
 
@@ -94,7 +112,7 @@ posted_so n q most filled free free' few m f l e = omega (arith, few, m, f, l, e
 pub changes_join : (core : ℕ) (x y z : CardView) → ChangesOne core x y → ChangesOne core y z → ChangesOne core x z
 changes_join core x y z p q = record { table = q.table ∙ p.table; count = q.count ∙ p.count; others = λ r d apart. q.others r d apart ∙ p.others r d apart }
 
-nothing_left : {X : Type 0} (xs ys : List X) → xs ≡ xs ++ ys → ys ≡ []
+pub nothing_left : {X : Type 0} (xs ys : List X) → xs ≡ xs ++ ys → ys ≡ []
 nothing_left xs ys e = sym (append_cancel_left xs [] ys (append-nil xs ∙ e))
 
 module _ {U E : Type 0} where
@@ -168,6 +186,8 @@ module _ {U E : Type 0} where
         home = fills.home;
         slots = fills.slots;
         left = fills.left;
+        own = fills.own;
+        still = fills.still;
         weight = fills.weight;
         core_rest = core_rest;
         port_rest = port_rest;

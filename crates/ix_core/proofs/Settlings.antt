@@ -1,17 +1,15 @@
 -- What a settle leaves, part by part.
-use Rattle.std.proofs.Common.{◌≡◌, ◌≢◌, ◌<◌, ◌≤◌, ◌+◌, ◌-◌, ◌⊎◌, inl, inr, ℕ, zero, suc, Bool, true, false, List, [], ◌∷◌, ◌++◌, length, get_or, sum_by, refl, sym, ap, subst, ◌∙◌, arith}
-use Rattle.std.specs.Prelude.{All, ◌==◌, ◌&&◌, nat_lt, if◌then◌else◌}
-use Rattle.std.proofs.lemmas.Bool.{cases_eq}
-use Rattle.std.proofs.lemmas.Bool.Decides.{nat_tests}
-use Rattle.std.proofs.lemmas.List.Elements.{All-head, All-nil, All-same}
-use Rattle.std.proofs.lemmas.List.Sums.{sum_by-cons, sum_by_push}
+use Rattle.std.proofs.Common.{◌≡◌, ◌<◌, ◌≤◌, ◌+◌, ◌-◌, ℕ, zero, suc, false, List, [], ◌∷◌, ◌++◌, length, get_or, sum_by, refl, sym, ap, subst, ◌∙◌, arith}
+use Rattle.std.specs.Prelude.{All}
+use Rattle.std.proofs.lemmas.List.Elements.{All-head, All-nil, All-same, All-weaker}
+use Rattle.std.proofs.lemmas.List.Sums.{sum_by-cons}
 use Rattle.ix_base.specs.declared.id.Owned.{Owned}
 use Rattle.ix_base.specs.declared.id.BufId.{BufId}
 use Rattle.ix_base.specs.declared.id.CoreId.{CoreId}
 use Rattle.ix_mbuf.specs.declared.name.Name.{Name}
 use Rattle.ix_mbuf.specs.Buffers.{Buffer, buffers_weight}
-use Rattle.ix_mbuf.specs.Owners.{one_if, same_id, times}
-use Rattle.ix_mbuf.specs.Pools.{Stock, all_names, is_out_of, unused}
+use Rattle.ix_mbuf.specs.Owners.{one_if, times}
+use Rattle.ix_mbuf.specs.Pools.{all_names, is_out_of}
 use Rattle.ix_ring.specs.Views.{PutView, TakeView}
 use Rattle.ix_ring.specs.Ends.{known, places, put_list, taken}
 use Rattle.ix_desk.specs.Pieces.{joined}
@@ -24,49 +22,11 @@ use Rattle.ix_core.specs.declared.settling.SettleReport.{SettleReport}
 use Rattle.ix_core.specs.declared.turning.Core.{Core}
 use Rattle.ix_core.specs.Counting.{AreHomes, home_of}
 use Rattle.ix_core.specs.Homing.{AllHomed, AreNumbered, AreOwn, CoreEmptied, CoreHomed, EachIs, LinkEmptied, NoneOut, core_returns, stock_weight}
-use Rattle.ix_core.specs.Meeting.{link_at}
-use Rattle.ix_core.specs.Renewing.{AreCounts, AreRenewed, AreResting, IsResting, Renewed, free_weight, posted_weight}
+use Rattle.ix_core.specs.Meeting.{AreInOrder, link_at}
+use Rattle.ix_core.specs.Renewing.{IsOf, AreCounts, AreRenewed, AreResting, IsResting, Renewed, free_weight, posted_weight}
 use Rattle.ix_core.specs.Settling.{CanSettle, CoreSettled, MeshIsEmpty, Settles}
+use Rattle.ix_core.proofs.Pools.{in_free, one_self, still_of}
 use Rattle.ix_core.proofs.Renewals.{any_port, sum_same}
-
--- ## The names of a pool
-unused_other : (x : BufId) (home : CoreId) (n : ℕ) → x.home.0 ≢ home.0 → one_if x (unused home n) ≡ 0
-unused_other x home n apart = let off : (x.home.0 == home.0) ≡ false = grind (arith, nat_tests) in rw off refl
-
-unused_slot : (x : BufId) (home : CoreId) (n : ℕ) → x.slot ≢ n → one_if x (unused home n) ≡ 0
-unused_slot x home n apart = let off : (x.slot == n) ≡ false = grind (arith, nat_tests) in slot (x.home.0 == home.0) off where
-  slot : (b : Bool) → (x.slot == n) ≡ false → ◌≡◌ {A = ℕ} (if b && x.slot == n then 1 else 0) 0
-  slot true off = rw off refl
-  slot false off = refl
-
-one_most : (x : BufId) (y : Name) → one_if x y ≤ 1
-one_most x y = most (same_id x y.id) where
-  most : (b : Bool) → (if b then 1 else 0) ≤ 1
-  most true = omega arith
-  most false = omega arith
-
-names_other : (x : BufId) (home : CoreId) (n : ℕ) → x.home.0 ≢ home.0 → times x (all_names home n) ≡ 0
-names_other x home zero apart = refl
-names_other x home (suc n) apart = omega (arith, sum_by_push (one_if x) (all_names home n) (unused home n), names_other x home n apart, unused_other x home n apart)
-
-names_above : (x : BufId) (home : CoreId) (n : ℕ) → n ≤ x.slot → times x (all_names home n) ≡ 0
-names_above x home zero le = refl
-names_above x home (suc n) le = omega (arith, sum_by_push (one_if x) (all_names home n) (unused home n), names_above x home n (omega arith), unused_slot x home n (λ e. omega arith))
-
-names_once : (x : BufId) (home : CoreId) (n : ℕ) → times x (all_names home n) ≤ 1
-names_once x home zero = omega arith
-names_once x home (suc n) = once (cases_eq x.slot n) (names_once x home n) where
-  once : (x.slot ≡ n) ⊎ (x.slot ≢ n) → times x (all_names home n) ≤ 1 → times x (all_names home (suc n)) ≤ 1
-  once (inl same) below = omega (arith, sum_by_push (one_if x) (all_names home n) (unused home n), names_above x home n (omega (arith, same)), one_most x (unused home n))
-  once (inr apart) below = omega (arith, below, sum_by_push (one_if x) (all_names home n) (unused home n), unused_slot x home n apart)
-
-free_so : (h k s n m t : ℕ) → (h == k && (nat_lt s n && m == 0)) ≡ false → (h ≢ k → t ≡ 0) → (n ≤ s → t ≡ 0) → t ≤ 1 → t ≤ m
-free_so h k s n m t none other above once = grind (arith, nat_tests)
-
--- a buffer of the pool that isn't out of it is free
-in_free : (p : Stock) (x : BufId) → is_out_of p x ≡ false → times x (all_names p.home p.n) ≤ times x p.free
-in_free p x none =
-    free_so x.home.0 p.home.0 x.slot p.n (times x p.free) (times x (all_names p.home p.n)) none (λ apart. names_other x p.home p.n apart) (λ le. names_above x p.home p.n le) (names_once x p.home p.n)
 
 sum_below : {X : Type 0} (v w : X → ℕ) (xs : List X) → ((k : ℕ) (d : X) → k < length xs → v (get_or xs k d) ≤ w (get_or xs k d)) → sum_by v xs ≤ sum_by w xs
 sum_below v w [] each = omega arith
@@ -79,11 +39,6 @@ sum_above v w [] i d lt each more = absurd (omega arith)
 sum_above v w (x ∷ xs) zero d lt each more = omega (arith, sum_by-cons v x xs, sum_by-cons w x xs, more, sum_below v w xs (λ k e h. each (suc k) e (omega arith)))
 sum_above v w (x ∷ xs) (suc i) d lt each more =
     omega (arith, sum_by-cons v x xs, sum_by-cons w x xs, each 0 x (omega arith), sum_above v w xs i d (omega arith) (λ k e h. each (suc k) e (omega arith)) more)
-
-one_self : (x : BufId) (n : Name) → n.id ≡ x → one_if x n ≡ 1
-one_self x n e = rw e (self x.home.0 x.slot) where
-  self : (a b : ℕ) → ◌≡◌ {A = ℕ} (if a == a && b == b then 1 else 0) 1
-  self a b = let p : (a == a) ≡ true = grind (arith, nat_tests) in let q : (b == b) ≡ true = grind (arith, nat_tests) in rw (p, q) refl
 
 same_counts : (a b c b' c' : ℕ) → b ≡ b' → c ≡ c' → ◌≡◌ {A = Counts} (record { posted = a; frames = b; items = c }) (record { posted = a; frames = b'; items = c' })
 same_counts a b c b' c' p q = cc
@@ -207,6 +162,10 @@ module _ {U E : Type 0} where
       let before : z ≡ record x { pool = z.pool; returns = z.returns; links = y.links } = homed.rest ∙ ap (λ (k : Core U E). record k { pool = z.pool; returns = z.returns }) empty.rest in
       let after : w ≡ record x { pool = w.pool; returns = z.returns; items = w.items; links = y.links; posted = w.posted } =
       one.core_rest ∙ ap (λ (k : Core U E). record k { pool = w.pool; items = w.items; posted = w.posted }) before in
+      let own : All (λ (b : Buffer). IsOf x.pool b.name) one.filled = All-weaker (λ (b : Buffer). IsOf z.pool b.name) (λ (b : Buffer). IsOf x.pool b.name)
+      (λ b here. still_of z.pool x.pool b.name (homed.home ∙ ap (λ (k : Core U E). k.pool.home) empty.rest) (homed.number ∙ ap (λ (k : Core U E). k.pool.n) empty.rest) here) one.filled one.own in
+      let still : All (λ (n : Name). IsOf x.pool n) w.pool.free = All-weaker (λ (n : Name). IsOf z.pool n) (λ (n : Name). IsOf x.pool n)
+      (λ n here. still_of z.pool x.pool n (homed.home ∙ ap (λ (k : Core U E). k.pool.home) empty.rest) (homed.number ∙ ap (λ (k : Core U E). k.pool.n) empty.rest) here) w.pool.free one.still in
       record {
         items = one.items;
         items_places = one.items_places;
@@ -217,6 +176,8 @@ module _ {U E : Type 0} where
         posts = one.posts;
         posts_places = one.posts_places;
         filled = one.filled;
+        own = own;
+        still = still;
         all = one.all;
         fresh = one.fresh;
         put = one.put;
@@ -251,6 +212,32 @@ module _ {U E : Type 0} where
         one_way (link_at x b a d e) (link_at x a (b - 1) d e) (link_at w b a d e) (link_at w a (b - 1) d e) second first told.back.whole,
       )
 
+  -- ## The order of all cores
+  order_so : (card card' : CardView) (x w : List (Core U E)) → AreInOrder card x → length card'.ports ≡ length card.ports → length w ≡ length x
+      → ((c : ℕ) (p : PortView) (d : Core U E) → c < length x → CoreSettled (get_or card.ports c p) (get_or card'.ports c p) (get_or x c d) (get_or w c d)) → AreInOrder card' w
+  order_so card card' x w order ports count each = record {
+    count = ports ∙ order.count ∙ sym count;
+    numbers = λ c d lt. let within : c < length x = omega (arith, lt, count) in ap (λ (h : CoreId). h.0) (each c (any_port d) d within).home ∙ order.numbers c d within;
+    ports = λ c p d lt. let one = each c p d (omega (arith, lt, count)) in record { items = one.items; posts = one.posts };
+    mesh = record {
+      links = λ c d lt. let within : c < length x = omega (arith, lt, count) in omega (arith, (each c (any_port d) d within).links.count, order.mesh.links c d within, count);
+      others = λ c p d e lt below.
+          let within : c < length x = omega (arith, lt, count) in
+          let place : p < length (get_or x c d).links.items = omega (arith, order.mesh.links c d within, below, count) in
+          ap (λ (l : Link U E). l.core.0) ((each c (any_port d) d within).links.each p e place).rest ∙ order.mesh.others c p d e within (omega (arith, below, count));
+      rings = λ a b d e lt below.
+          let in_b : b < length x = omega (arith, below, count) in
+          let in_a : a < length x = omega (arith, in_b, lt) in
+          let first = link_so x w a (b - 1) d e (each a (any_port d) d in_a).links (omega (arith, order.mesh.links a d in_a, in_b, lt)) in
+          let second = link_so x w b a d e (each b (any_port d) d in_b).links (omega (arith, order.mesh.links b d in_b, in_b, lt)) in
+          let linked = order.mesh.rings a b d e lt in_b in
+          record {
+            there = ap (λ (l : Link U E). l.put.ring) first.rest ∙ linked.there ∙ sym second.ring;
+            back = ap (λ (l : Link U E). l.put.ring) second.rest ∙ linked.back ∙ sym first.ring;
+          };
+    };
+  }
+
   -- ## All together
   pub settles_so : (owners : U → ℕ → Owned) (report : SettleReport) (card card' card'' : CardView) (x y z w : List (Core U E)) (bufs : List Buffer) → CanSettle card x → EachIs CoreEmptied x y
       → bufs ≡ joined core_returns x → AllHomed bufs y z → AreRenewed card card' z w → AreCounts (length z) report.rings.items card'
@@ -260,6 +247,7 @@ module _ {U E : Type 0} where
     ports = begun.count ∙ anew.ports;
     count = count;
     each = each;
+    order = order_so card card'' x w can.order (begun.count ∙ anew.ports) count each;
     mesh = mesh_so card x w can count (λ c d lt. (each c (any_port d) d lt).links);
     none = λ own c d lt. ap (λ (k : Core U E). k.returns.items) (anew.each c (any_port d) d (omega (arith, lt, count_z))).core_rest ∙ none_left x y z bufs own empty all homed c d lt;
     weight = λ f. omega (arith, anew.weight f, homed.weight f, weight_emptied f x y empty, ap (buffers_weight f) all, posted f, stocks f);

@@ -21,7 +21,7 @@ use Rattle.ix_core.specs.Landing.{home_in}
 use Rattle.ix_core.specs.LinkRuns.{links_join}
 use Rattle.ix_core.specs.Links.{HeardUp, LinksRan, all_out, all_put, all_taken, buffer_left, homes_weight, link_waits, puts_of, takes_of}
 use Rattle.ix_core.proofs.LinkLaws.{waits_by_count}
-use Rattle.ix_core.specs.Runs.{Calm, calm-joins, run-joins}
+use Rattle.ix_core.specs.Runs.{Bounded, Calm, bounded-calm, bounded-joins, calm-joins}
 
 either : (b : Bool) → (if b then 1 else 0) + (if not b then 1 else 0) ≡ 1
 either true = refl
@@ -114,14 +114,16 @@ module _ {U E : Type 0} where
       simp append-nil at ae
 
 module _ {U E : Type 0} (counted : Work → Bool) (name : Work → ℕ) (stepped : U → List (ℕ × ℕ)) (advanced : U → E → ℕ → List Work → U → Type 0) (drained : U → List Buffer → U → Type 0) (env : E) where
-  pub whole_run : (d0 d1 d2 d3 d4 d5 : View U Work) (items : List (RingItem Work)) (ins : List (ℕ × Parcel U Work)) (frees : List (List Buffer)) (outs : List (Parcel U Work))
-      → Calm counted name stepped advanced drained env d0 d1 [] ins [] [] → Calm counted name stepped advanced drained env d1 d2 items [] [] [] → Run counted name stepped advanced drained env d2 d3 [] [] [] []
-      → Calm counted name stepped advanced drained env d3 d4 [] [] frees [] → Calm counted name stepped advanced drained env d4 d5 [] [] [] outs → Run counted name stepped advanced drained env d0 d5 items ins frees outs
-  whole_run d0 d1 d2 d3 d4 d5 items ins frees outs a b c d e =
-      let de : Run counted name stepped advanced drained env d3 d5 [] [] (frees ++ []) outs = run-joins counted name stepped advanced drained env d3 d4 d5 [] [] [] [] frees [] [] outs d.run e.run in
-      let ce : Run counted name stepped advanced drained env d2 d5 [] [] (frees ++ []) outs = run-joins counted name stepped advanced drained env d2 d3 d5 [] [] [] [] [] (frees ++ []) [] outs c de in
-      let be : Run counted name stepped advanced drained env d1 d5 (items ++ []) [] (frees ++ []) outs = run-joins counted name stepped advanced drained env d1 d2 d5 items [] [] [] [] (frees ++ []) [] outs b.run ce in
-      let ae : Run counted name stepped advanced drained env d0 d5 (items ++ []) (ins ++ []) (frees ++ []) outs = run-joins counted name stepped advanced drained env d0 d1 d5 [] (items ++ []) ins [] [] (frees ++ []) [] outs a.run be in
+  pub whole_run : (most : ℕ) (d0 d1 d2 d3 d4 d5 : View U Work) (items : List (RingItem Work)) (ins : List (ℕ × Parcel U Work)) (frees : List (List Buffer)) (outs : List (Parcel U Work))
+      → Calm counted name stepped advanced drained env d0 d1 [] ins [] [] → Calm counted name stepped advanced drained env d1 d2 items [] [] [] → Bounded counted name stepped advanced drained env most d2 d3 [] [] [] []
+      → Calm counted name stepped advanced drained env d3 d4 [] [] frees [] → Calm counted name stepped advanced drained env d4 d5 [] [] [] outs → Bounded counted name stepped advanced drained env most d0 d5 items ins frees outs
+  whole_run most d0 d1 d2 d3 d4 d5 items ins frees outs a b c d e =
+      let calmly = bounded-calm counted name stepped advanced drained env most in
+      let joins = bounded-joins counted name stepped advanced drained env most in
+      let de : Bounded counted name stepped advanced drained env most d3 d5 [] [] (frees ++ []) outs = joins d3 d4 d5 [] [] [] [] frees [] [] outs (calmly d3 d4 [] [] frees [] d) (calmly d4 d5 [] [] [] outs e) in
+      let ce : Bounded counted name stepped advanced drained env most d2 d5 [] [] (frees ++ []) outs = joins d2 d3 d5 [] [] [] [] [] (frees ++ []) [] outs c de in
+      let be : Bounded counted name stepped advanced drained env most d1 d5 (items ++ []) [] (frees ++ []) outs = joins d1 d2 d5 items [] [] [] [] (frees ++ []) [] outs (calmly d1 d2 items [] [] [] b) ce in
+      let ae : Bounded counted name stepped advanced drained env most d0 d5 (items ++ []) (ins ++ []) (frees ++ []) outs = joins d0 d1 d5 [] (items ++ []) ins [] [] (frees ++ []) [] outs (calmly d0 d1 [] ins [] [] a) be in
       simp append-nil at ae
 
   -- flow groups land, and items are dealt

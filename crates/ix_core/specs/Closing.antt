@@ -1,10 +1,10 @@
 -- The close of a play: what it needs, what it leaves of the card and the cores that it is lent, and what it answers.
-use Rattle.std.specs.Prelude.{◌≡◌, ◌+◌, ◌<◌, ◌≤◌, ℕ, zero, suc, List, [], ◌∷◌, ◌++◌, None, length, map, option_to_list, slice_index_or, sum_by, take}
+use Rattle.std.specs.Prelude.{◌≡◌, ◌≢◌, ◌+◌, ◌<◌, ◌≤◌, ℕ, zero, suc, List, [], ◌∷◌, ◌++◌, None, length, map, option_to_list, slice_index_or, sum_by, take}
 use Rattle.ix_base.specs.declared.id.BufId.{BufId}
 use Rattle.ix_base.specs.declared.id.GroupId.{GroupId}
 use Rattle.ix_mbuf.specs.declared.name.Name.{Name}
 use Rattle.ix_mbuf.specs.Buffers.{Buffer, buffers_weight}
-use Rattle.ix_mbuf.specs.Owners.{one_if, times}
+use Rattle.ix_mbuf.specs.Owners.{at_home, one_at, one_if, times}
 use Rattle.ix_mbuf.specs.Pools.{all_names}
 use Rattle.ix_ring.specs.Ends.{known, taken, SameTakeEnd}
 use Rattle.ix_desk.specs.Pieces.{joined}
@@ -85,10 +85,12 @@ module _ {U E : Type 0} where
   abbrev pub NothingWaits : ℕ → List (Core U E) → Type 0
   NothingWaits g cores = (c : ℕ) (d : Core U E) → c < length cores → waits (group_at (slice_index_or cores c d).desks g) ≡ []
 
-  -- the numbers of free buffers of the first cores, in order
+  -- The numbers of free buffers of the first cores, in order. Each pool has buffers of its own core alone.
   pub record PoolsAre (n : ℕ) (pools : List ℕ) (cores : List (Core U E)) : Type 0 where
     pub count : length pools ≡ n
     pub each : (c : ℕ) (d : Core U E) (m : ℕ) → c < n → slice_index_or pools c m ≡ length (slice_index_or cores c d).pool.free
+    pub own : (c : ℕ) (d : Core U E) → c < n → at_home (slice_index_or cores c d).pool.home.0 (slice_index_or cores c d).pool.free ≡ length (slice_index_or cores c d).pool.free
+    pub foreign : (c : ℕ) (d : Core U E) (home : ℕ) → c < n → home ≢ (slice_index_or cores c d).pool.home.0 → at_home home (slice_index_or cores c d).pool.free ≡ 0
 
   -- the units of a group were taken from the first cores and ended
   pub record GroupEnds (finished : U → List Buffer → U → Type 0) (g i : ℕ) (cores cores' : List (Core U E)) (old new : List (GroupId × U)) (before after : List Buffer) : Type 0 where
@@ -137,6 +139,10 @@ module _ {U E : Type 0} where
   abbrev pub AllAreOwn : ((Name → ℕ) → U → ℕ) → CardView → List (Core U E) → Type 0
   AllAreOwn weight card cores = (x : BufId) → close_weight weight (one_if x) card cores ≤ sum_by (λ c. times x (all_names c.pool.home c.pool.n)) cores
 
+  -- As many buffers of each core are anywhere as its pool has slots.
+  abbrev pub AllAreThere : ((Name → ℕ) → U → ℕ) → CardView → List (Core U E) → Type 0
+  AllAreThere weight card cores = (c : ℕ) (d : Core U E) → c < length cores → close_weight weight (one_at (slice_index_or cores c d).pool.home.0) card cores ≡ (slice_index_or cores c d).pool.n
+
   -- What the close does, and what it answers.
   pub record Closes (finished : U → List Buffer → U → Type 0) (weight : (Name → ℕ) → U → ℕ) (closed : Closed U E) (card card' : CardView) (cores cores' : List (Core U E)) : Type 0 where
     pub table : card'.table ≡ card.table
@@ -149,3 +155,5 @@ module _ {U E : Type 0} where
     pub none : AllAreOwn weight card cores → (c : ℕ) (d : Core U E) → c < length cores → (slice_index_or cores' c d).returns.items ≡ []
     -- the buffers in the pool of each core
     pub pools : PoolsAre (length cores) closed.pools.items cores'
+    -- all of them, where all were there
+    pub full : AllAreOwn weight card cores → AllAreThere weight card cores → (c : ℕ) (d : Core U E) (m : ℕ) → c < length cores → slice_index_or closed.pools.items c m ≡ (slice_index_or cores c d).pool.n

@@ -17,6 +17,8 @@ use Rattle.ix_history.specs.Events.{Parcel}
 use Rattle.ix_history.specs.Run.{Run}
 use Rattle.ix_core.specs.Items.{ring_item}
 use Rattle.ix_core.specs.Landing.{parcel_of}
+use Rattle.ix_core.specs.Renewing.{IsOf}
+use Rattle.ix_core.specs.Runs.{works_in}
 use Rattle.ix_core.specs.Links.{AllBehind, AreOpened, LinksRan, SameLinks, all_of, buffer_left, cores_of, homes_weight, parcel_lost}
 
 -- the same core: its number, its bound of a batch, and its ends of the same rings
@@ -62,10 +64,13 @@ module _ {U E : Type 0} (counted : Work → Bool) (name : Work → ℕ) (stepped
     pub frees : List (List Buffer)
     pub outs : List (Parcel U Work)
     pub run : Run counted name stepped advanced drained env old.desks new.desks (map ring_item dealt) ins frees outs
+    -- each batch was within the core's bound
+    pub bounds : All (λ max. max ≤ old.batch) (works_in run.events)
     pub links : LinksRan ins (all_of frees) outs old.links.items new.links.items
     pub lost : map parcel_of new.lost.items ≡ map parcel_of old.lost.items ++ joined (parcel_lost (cores_of old.links.items)) outs
-    -- the buffers that were posted, no more than frames were taken
+    -- the buffers that were posted, the core's own and no more than frames were taken
     pub posts : List Buffer
+    pub own : All (λ b. IsOf old.pool b.name) posts
     pub put : put_list new.posted ≡ put_list old.posted ++ posts
     pub few : length posts ≤ count_by is_frame items
     -- the pool, and what is to be given to it

@@ -1,5 +1,5 @@
 -- The rings between the card and a core that are made anew at a settle, and the buffers that are posted then.
-use Rattle.std.specs.Prelude.{◌≡◌, ◌+◌, ◌<◌, ◌≤◌, ℕ, min, List, [], ◌++◌, length, slice_index_or, sum_by}
+use Rattle.std.specs.Prelude.{◌≡◌, ◌+◌, ◌<◌, ◌≤◌, ℕ, min, All, List, [], ◌++◌, length, slice_index_or, sum_by}
 use Rattle.ix_mbuf.specs.declared.name.Name.{Name}
 use Rattle.ix_mbuf.specs.Buffers.{Buffer, buffers_weight}
 use Rattle.ix_mbuf.specs.Pools.{Stock}
@@ -11,6 +11,10 @@ use Rattle.ix_nic.specs.Ports.{PortView, kept_count}
 use Rattle.ix_core.specs.declared.turning.Core.{Core}
 use Rattle.ix_core.specs.Homing.{AreNumbered}
 
+-- a buffer of a pool, by its name: its home is the pool's core, and its slot is one of the pool's
+abbrev pub IsOf : Stock → Name → Type 0
+IsOf pool x = (x.id.home ≡ pool.home) × (x.id.slot < pool.n)
+
 -- So many free buffers were put on a posting ring, or all that there are.
 pub record Fills (most : ℕ) (pool pool' : Stock) (old new : PutView Buffer) : Type 0 where
   pub posts : List Buffer
@@ -19,6 +23,8 @@ pub record Fills (most : ℕ) (pool pool' : Stock) (old new : PutView Buffer) : 
   pub slots : pool'.n ≡ pool.n
   pub put : put_list new ≡ put_list old ++ posts
   pub left : length pool'.free + length posts ≡ length pool.free
+  pub own : All (λ b. IsOf pool b.name) posts
+  pub still : All (λ x. IsOf pool x) pool'.free
   pub weight : (f : Name → ℕ) → sum_by f pool'.free + buffers_weight f posts ≡ sum_by f pool.free
 
 -- So many were put so far.
@@ -72,6 +78,8 @@ module _ {U E : Type 0} where
     pub home : y.pool.home ≡ x.pool.home
     pub slots : y.pool.n ≡ x.pool.n
     pub left : length y.pool.free + length filled ≡ length x.pool.free
+    pub own : All (λ b. IsOf x.pool b.name) filled
+    pub still : All (λ n. IsOf x.pool n) y.pool.free
     pub weight : (f : Name → ℕ) → sum_by f y.pool.free + buffers_weight f filled ≡ sum_by f x.pool.free
     pub core_rest : y ≡ record x { pool = y.pool; items = y.items; posted = y.posted }
     pub port_rest : q ≡ record p { ring = q.ring; posts = q.posts }

@@ -1,6 +1,7 @@
 -- Histories of one event, and histories one after the other.
-use Rattle.std.proofs.Common.{◌≡◌, ℕ, Bool, true, List, [], ◌∷◌, ◌++◌, refl, sym, ap, subst, ◌∙◌, append_assoc}
-use Rattle.std.specs.Prelude.{Some}
+use Rattle.std.proofs.Common.{◌≡◌, ◌≤◌, ℕ, Bool, true, List, [], ◌∷◌, ◌++◌, refl, sym, ap, subst, ◌∙◌, append_assoc, arith}
+use Rattle.std.specs.Prelude.{All, Some}
+use Rattle.std.proofs.lemmas.List.Elements.{All-append, All-cons, All-nil, All-same}
 use Rattle.ix_mbuf.specs.Buffers.{Buffer}
 use Rattle.ix_desk.specs.Views.{View}
 use Rattle.ix_desk.specs.Pieces.{joined}
@@ -35,6 +36,11 @@ module _ {U E : Type 0} (counted : Work → Bool) (name : Work → ℕ) (stepped
   pub record Calm (x y : View U Work) (items : List (RingItem Work)) (ins : List (ℕ × Parcel U Work)) (frees : List (List Buffer)) (outs : List (Parcel U Work)) : Type 0 where
     pub run : Run counted name stepped advanced drained env x y items ins frees outs
     pub calm : works_in run.events ≡ []
+
+  -- A history of desks that work within a bound: it took these items, these flow groups came, these buffers were handed out, and these flow groups left.
+  pub record Bounded (most : ℕ) (x y : View U Work) (items : List (RingItem Work)) (ins : List (ℕ × Parcel U Work)) (frees : List (List Buffer)) (outs : List (Parcel U Work)) : Type 0 where
+    pub run : Run counted name stepped advanced drained env x y items ins frees outs
+    pub works : All (λ max. max ≤ most) (works_in run.events)
 
 -- ## Laws
 pub both : {I : Type 0} (a b c d : List I) → a ≡ b → c ≡ d → a ++ c ≡ b ++ d
@@ -190,3 +196,26 @@ module _ {U E : Type 0} (counted : Work → Bool) (name : Work → ℕ) (stepped
   pub calm-gone : (x y : View U Work) (s : Parcel U Work) → Ships x y s.group s.tenure s.to s.unit s.queue → Calm counted name stepped advanced drained env x y [] [] [] (s ∷ [])
   unfolding run-gone
   calm-gone x y s e = record { run = run-gone x y s e; calm = refl }
+
+  -- ## The same of histories within a bound
+  pub bounded-stays : (most : ℕ) (x : View U Work) → Bounded counted name stepped advanced drained env most x x [] [] [] []
+  unfolding run-stays
+  bounded-stays most x = record { run = run-stays x; works = All-nil (λ max. max ≤ most) }
+
+  pub bounded-calm : (most : ℕ) (x y : View U Work) (items : List (RingItem Work)) (ins : List (ℕ × Parcel U Work)) (frees : List (List Buffer)) (outs : List (Parcel U Work))
+      → Calm counted name stepped advanced drained env x y items ins frees outs → Bounded counted name stepped advanced drained env most x y items ins frees outs
+  bounded-calm most x y items ins frees outs p = record { run = p.run; works = All-same (λ max. max ≤ most) (works_in p.run.events) [] p.calm (All-nil (λ max. max ≤ most)) }
+
+  pub bounded-worked : (x y : View U Work) (most : ℕ) → AllWorked counted name stepped advanced env x.core most x y → Bounded counted name stepped advanced drained env most x y [] [] [] []
+  unfolding run-worked
+  bounded-worked x y most e = record { run = run-worked x y most e; works = All-cons (λ max. max ≤ most) most [] (omega arith) (All-nil (λ max. max ≤ most)) }
+
+  pub bounded-joins : (most : ℕ) (x y z : View U Work) (i j : List (RingItem Work)) (a b : List (ℕ × Parcel U Work)) (c d : List (List Buffer)) (k l : List (Parcel U Work))
+      → Bounded counted name stepped advanced drained env most x y i a c k → Bounded counted name stepped advanced drained env most y z j b d l
+      → Bounded counted name stepped advanced drained env most x z (i ++ j) (a ++ b) (c ++ d) (k ++ l)
+  unfolding run-joins
+  bounded-joins most x y z i j a b c d k l p q = record {
+    run = run-joins x y z i j a b c d k l p.run q.run;
+    works = All-same (λ max. max ≤ most) (works_in (p.run.events ++ q.run.events)) (works_in p.run.events ++ works_in q.run.events) (works-append p.run.events q.run.events)
+        (All-append (λ max. max ≤ most) (works_in p.run.events) (works_in q.run.events) p.works q.works);
+  }

@@ -1,5 +1,5 @@
 -- A settle: what it needs, what it leaves of the card and the cores that it is lent, and what it answers.
-use Rattle.std.specs.Prelude.{◌≡◌, ◌+◌, ◌-◌, ◌<◌, ◌≤◌, ℕ, Bool, true, false, min, List, [], ◌++◌, length, slice_index_or, sum_by}
+use Rattle.std.specs.Prelude.{◌≡◌, ◌+◌, ◌-◌, ◌<◌, ◌≤◌, ℕ, Bool, true, false, min, All, List, [], ◌++◌, length, slice_index_or, sum_by}
 use Rattle.std.specs.List.{list_any}
 use Rattle.ix_base.specs.declared.id.Owned.{Owned}
 use Rattle.ix_mbuf.specs.declared.name.Name.{Name}
@@ -16,7 +16,7 @@ use Rattle.ix_core.specs.declared.turning.Core.{Core}
 use Rattle.ix_core.specs.Counting.{home_of}
 use Rattle.ix_core.specs.Homing.{AreOwn, EachIs, LinkEmptied, NoShipsAmong, core_returns, stock_weight}
 use Rattle.ix_core.specs.Meeting.{AllAreTold, AreInOrder, link_at}
-use Rattle.ix_core.specs.Renewing.{free_weight, posted_count, posted_weight}
+use Rattle.ix_core.specs.Renewing.{IsOf, free_weight, posted_count, posted_weight}
 
 module _ {U E : Type 0} where
   -- The rings between the card and a core are as at the end of an epoch: of 512 places each, nothing on the receive ring or behind it, and no
@@ -46,19 +46,21 @@ module _ {U E : Type 0} where
     pub none_known : known y.items ≡ []
     pub room : spare q.ring ≡ 512
     -- the posting ring: a ring of 512 places with the buffers that were posted, and free ones of the core behind them. With one that the card
-    -- keeps 512 are posted, or all that the core has.
+    -- keeps 512 are posted, or all that the core has. Those that are posted now are the core's own.
     pub posts : IsRing y.posted q.posts
     pub posts_places : places y.posted ≡ 512
     pub filled : List Buffer
+    pub own : All (λ b. IsOf x.pool b.name) filled
     pub all : known q.posts ≡ known p.posts ++ filled
     pub fresh : taken q.posts ≡ []
     pub put : put_list y.posted ≡ known q.posts
     pub posted : posted_count q ≡ min 512 (length y.pool.free + posted_count q)
     -- the mesh: what was on it is taken, and nothing waits for it
     pub links : EachIs LinkEmptied x.links.items y.links.items
-    -- the pool is that of the same core, with as many slots
+    -- the pool is that of the same core, with as many slots, and what is free in it is its own
     pub home : y.pool.home ≡ x.pool.home
     pub slots : y.pool.n ≡ x.pool.n
+    pub still : All (λ n. IsOf x.pool n) y.pool.free
     -- desks, and all else, stay; the counts of the ring begin anew
     pub core_rest : y ≡ record x { pool = y.pool; returns = y.returns; items = y.items; links = y.links; posted = y.posted }
     pub port_rest : q ≡ record p { ring = q.ring; posts = q.posts; items = 0; frames = 0; posted = posted_now q; ended = false }
@@ -75,6 +77,7 @@ module _ {U E : Type 0} where
     pub count : length cores' ≡ length cores
     pub each : (c : ℕ) (p : PortView) (d : Core U E) → c < length cores
         → CoreSettled (slice_index_or card.ports c p) (slice_index_or card'.ports c p) (slice_index_or cores c d) (slice_index_or cores' c d)
+    pub order : AreInOrder card' cores'
     -- no message is left on the mesh, and no buffer is still to be given to a pool, where those that returned were out of the pools
     pub mesh : MeshIsEmpty cores'
     pub none : AreOwn cores → (c : ℕ) (d : Core U E) → c < length cores → (slice_index_or cores' c d).returns.items ≡ []

@@ -51,6 +51,10 @@ pub record WasIdle {U E : Type 0} (old new : Core U E) : Type 0 where
   pub links : (i : ℕ) (d : Link U E) → i < length old.links.items → LinkWasIdle (slice_index_or old.links.items i d) (slice_index_or new.links.items i d)
   pub desks : IsIdle new.desks
 
+-- each flow group that is here just handed out all buffers that it doesn't need any more
+abbrev pub AreDrained : {U : Type 0} → (U → List Buffer → U → Type 0) → View U Work → Type 0
+AreDrained {U} drained v = (g : ℕ) (u : U) → g < 512 → unit_of (group_at v g) ≡ Some u → IsDrained drained u
+
 module _ {U E : Type 0} (counted : Work → Bool) (name : Work → ℕ) (stepped : U → List (ℕ × ℕ)) (advanced : U → E → ℕ → List Work → U → Type 0) (drained : U → List Buffer → U → Type 0) (env : E) where
   -- One turn, part by part: each does all that it may.
   pub record Turned (turn : Turn) (old new : Core U E) : Type 0 where
@@ -79,7 +83,7 @@ module _ {U E : Type 0} (counted : Work → Bool) (name : Work → ℕ) (stepped
     pub frees : List (List Buffer)
     pub empty : View U Work
     pub drains : Calm counted name stepped advanced drained env done empty [] [] frees []
-    pub clean : (g : ℕ) (u : U) → g < 512 → unit_of (group_at empty g) ≡ Some u → IsDrained drained u
+    pub clean : AreDrained drained empty
     -- flow groups that are to leave do
     pub outs : List (Parcel U Work)
     pub leaves : Calm counted name stepped advanced drained env empty new.desks [] [] [] outs

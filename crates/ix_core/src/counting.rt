@@ -2,14 +2,14 @@
 ghost use Rattle.std.specs.Prelude.{◌≡◌, length, IfOk};
 ghost use Rattle.ix_mbuf.specs.Owners.{one_at};
 ghost use Rattle.ix_desk.specs.Desks.{group_at, groups_wait};
-ghost use Rattle.ix_stack.specs.Works.{work_weight, works_weight};
+ghost use Rattle.ix_stack.specs.Works.{works_weight};
 ghost use Rattle.ix_nic.specs.Ports.{capped};
 ghost use Rattle.ix_core.specs.Counting.{AreHomes, frames_over, home_of, owned_at, owned_of, owned_over, owned_plus};
 
 use crate::dealing::groups;
 use crate::turning::Core;
 use ix_base::{CoreId, GroupId, NoMemory, Owned};
-use ix_desk::Desks;
+use ix_desk::{Desks, Measure};
 use ix_nic::Counts;
 use ix_stack::{GroupStack, Work};
 use std::alloc::Global;
@@ -31,46 +31,48 @@ pub struct Home {
     pub queue: u32,
 }
 
-// Whether a flow group's item is in a buffer of this home, as a number.
-fn frames_of(work: &Work, home: CoreId) -> u32
-    ensures { result ≡ work_weight (one_at home.0) work.now }
-{
-    match work {
-        Work::Frame(taken) => {
-            if taken.buf.id().home.0 == home.0 {
-                return 1;
+// Whether an item is a frame in a buffer of this home, as a number.
+#[derive(Drop)]
+struct FramesOf {
+    home: CoreId,
+}
+
+impl Measure<Work> for FramesOf {
+    ghost use Rattle.ix_mbuf.specs.Owners.{one_at};
+    ghost use Rattle.ix_stack.specs.Works.{work_weight};
+
+    ghost amount = { λ frames work. work_weight (one_at frames.home.0) work };
+
+    fn of(&self, work: &Work) -> u32 {
+        match work {
+            Work::Frame(taken) => {
+                if taken.buf.id().home.0 == self.home.0 {
+                    return 1;
+                }
+                0
             }
-            0
+            Work::Time { w: _, t: _ } => 0,
         }
-        Work::Time { w: _, t: _ } => 0,
     }
 }
 
-// The frames in buffers of a home that wait at a core's desks. A list of more items than a number counts finds no memory.
-fn frames_at<G: GroupStack>(desks: &Desks<G>, home: CoreId) -> Result<u32, NoMemory>
-    ensures { IfOk result (λ n. n ≡ capped (works_weight (one_at home.0) (groups_wait desks.now))) }
+// The frames in buffers of a home that wait at a core's desks.
+fn frames_at<G: GroupStack>(desks: &Desks<G>, home: CoreId) -> u32
+    ensures { result ≡ capped (works_weight (one_at home.0) (groups_wait desks.now)) }
 {
-    let mut count = 0u32;
-    for place in 0..usize::MAX {
-        let Some(work) = desks.waiting(place) else {
-            return Ok(count);
-        };
-        let one = frames_of(work, home);
-        count = count.saturating_add(one);
-    }
-    Err(NoMemory)
+    desks.amount(&FramesOf { home })
 }
 
 // Those that wait at the desks of any core.
-fn all_frames<G: GroupStack>(cores: &[Core<G>], home: CoreId) -> Result<u32, NoMemory>
-    ensures { IfOk result (λ n. n ≡ capped (frames_over home.0 cores.now)) }
+fn all_frames<G: GroupStack>(cores: &[Core<G>], home: CoreId) -> u32
+    ensures { result ≡ capped (frames_over home.0 cores.now) }
 {
     let mut count = 0u32;
     for core in cores {
-        let here = frames_at(&core.desks, home)?;
+        let here = frames_at(&core.desks, home);
         count = count.saturating_add(here);
     }
-    Ok(count)
+    count
 }
 
 fn plus(a: Owned, b: Owned) -> Owned
@@ -131,20 +133,20 @@ fn all_owned<G: GroupStack>(cores: &[Core<G>], home: CoreId) -> Owned
 }
 
 // Where the buffers of a core are, of which so many are posted.
-fn home_of<G: GroupStack>(cores: &[Core<G>], own: &Core<G>, posted: u32) -> Result<Home, NoMemory>
-    ensures { IfOk result (λ h. h ≡ home_of G.owners cores.now own.now posted) }
+fn home_of<G: GroupStack>(cores: &[Core<G>], own: &Core<G>, posted: u32) -> Home
+    ensures { result ≡ home_of G.owners cores.now own.now posted }
 {
     let home = own.pool.home();
-    let desk = all_frames(cores, home)?;
+    let desk = all_frames(cores, home);
     let Owned { held, app, queue } = all_owned(cores, home);
-    Ok(Home {
+    Home {
         pool: own.pool.free(),
         posted,
         desk,
         held,
         app,
         queue,
-    })
+    }
 }
 
 /// Where the buffers of each core are, with the counts of the rings.
@@ -158,7 +160,7 @@ pub fn homes_of<G: GroupStack>(
 {
     let mut homes = Vec::new(alloc);
     for place in 0..cores.len() {
-        let home = home_of(cores, &cores[place], rings[place].posted)?;
+        let home = home_of(cores, &cores[place], rings[place].posted);
         homes.push(home)?;
     }
     Ok(homes)

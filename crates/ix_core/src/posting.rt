@@ -19,6 +19,8 @@ pub fn post(
     ensures posts { OnOk result (Posts most pool.old pool.new posted.old posted.new returns.old.items returns.new.items) }
 {
     returns.reserve(1)?;
+    // asked for what it says of the free buffers
+    let _free = pool.free();
     for _i in 0..most {
         let Some(buf) = pool.take() else {
             return Ok(());

@@ -22,6 +22,8 @@ fn fill(pool: &mut Pool, posted: &mut PutEnd<Mbuf>, most: u32)
     ensures ring { SamePutEnd posted.old posted.new }
     ensures fills { Fills most pool.old pool.new posted.old posted.new }
 {
+    // asked for what it says of the free buffers
+    let _free = pool.free();
     for _i in 0..most {
         let Some(buf) = pool.take() else {
             return;

@@ -54,7 +54,7 @@ impl<G: GroupStack> Core<G> {
     ghost use Rattle.ix_desk.specs.Desks.{group_at, opened};
     ghost use Rattle.ix_core.specs.Connecting.{Connects};
     ghost use Rattle.ix_core.specs.Cores.{CoreBecame, IsOpened, LeavesNothing, Ran, SameEnds};
-    ghost use Rattle.ix_core.specs.Turned.{Turned, WasIdle};
+    ghost use Rattle.ix_core.specs.Turned.{AreDrained, Turned, WasIdle};
     ghost use Rattle.ix_core.specs.Weights.{WeighsTheSame};
     ghost use Rattle.ix_run.specs.declared.actors.Turn.TheVariants.{Idle};
 
@@ -107,6 +107,7 @@ impl<G: GroupStack> Core<G> {
         ensures parts { IfOk result (λ turn. Turned G.counted G.name G.stepped G.advanced G.drained env.now turn self.old self.new) }
         ensures nothing { OnOk result (LeavesNothing self.new) }
         ensures idle { IfOk result (λ turn. turn ≡ Idle → WasIdle self.old self.new) }
+        ensures drained { IfOk result (λ turn. turn ≡ Idle → self.new.lost.items ≡ self.old.lost.items → AreDrained G.drained self.new.desks) }
     {
         let batch = self.batch.frames();
         let heard = hear_all(&mut self.links, &mut self.desks, env, &mut self.returns)?;
@@ -137,6 +138,7 @@ impl<G: GroupStack> Core<G> {
         ensures parts { IfOk result (λ turn. Turned G.counted G.name G.stepped G.advanced G.drained env.now turn self.old self.new) }
         ensures nothing { OnOk result (LeavesNothing self.new) }
         ensures idle { IfOk result (λ turn. turn ≡ Idle → WasIdle self.old self.new) }
+        ensures drained { IfOk result (λ turn. turn ≡ Idle → self.new.lost.items ≡ self.old.lost.items → AreDrained G.drained self.new.desks) }
         ensures again { self.old.failed ≡ true → IsErr result }
     {
         if self.failed {

@@ -8,3 +8,4 @@ pub mod Each
 pub mod Home
 pub mod Order
 pub mod Work
+pub mod Adding

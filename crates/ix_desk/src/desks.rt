@@ -1,5 +1,5 @@
 // All desks of a core.
-ghost use Rattle.std.specs.Prelude.{◌≡◌, ◌<◌, ◌-◌, ◌≤◌, ◌++◌, [], ◌∷◌, ℕ, true, false, All, AllPairs, OnOk, OnErr, IfOk, IfErr, IfSome, IfNone, IsErr, IsNone, Some, Option, slice_get, length, MatchOption};
+ghost use Rattle.std.specs.Prelude.{◌≡◌, ◌<◌, ◌-◌, ◌^◌, ◌≤◌, min, sum_by, ◌++◌, [], ◌∷◌, ℕ, true, false, All, AllPairs, OnOk, OnErr, IfOk, IfErr, IfSome, IfNone, IsErr, IsNone, Some, Option, slice_get, length, MatchOption};
 ghost use Rattle.std.specs.Option.{option_copied};
 ghost use Rattle.ix_desk.specs.Views.{Piece, CutPiece};
 ghost use Rattle.ix_desk.specs.Groups.{taken, landed, unit_of, untaken, changed, done_of, shipped, waits};
@@ -8,6 +8,7 @@ ghost use Rattle.ix_desk.specs.Failures.{AllFailed};
 ghost use Rattle.ix_desk.specs.Desks.{group_at, with_group, fits_at, welcome_at, groups_wait, opened, has_work, Ships, NothingDone, SameOrder};
 
 use crate::all_groups::{empty_groups, groups_waiting, seat_home, ship_first};
+use crate::amounts::{Measure, groups_amount};
 use crate::group::GroupDesks;
 use crate::unit::{DeskItem, Shipment, Unit};
 use crate::working::work_groups;
@@ -177,6 +178,13 @@ impl<U: Unit> Desks<U> {
         ensures { option_copied result ≡ slice_get (groups_wait self.now) i }
     {
         groups_waiting(self.groups.as_slice(), i).ok()
+    }
+
+    /// The numbers of the items that wait, added up. The sum stands still at the type's end.
+    pub fn amount<M: Measure<U::Item>>(&self, measure: &M) -> u32
+        ensures { result ≡ min (sum_by (M.amount measure.now) (groups_wait self.now)) (2 ^ 32 - 1) }
+    {
+        groups_amount(measure, self.groups.as_slice())
     }
 
     /// Whether something is to be stepped: an item that is ready at a desk whose unit is here, whether it counts or not. There are 512 groups.

@@ -4,6 +4,7 @@ ghost use Rattle.std.specs.List.{list_any};
 ghost use Rattle.std.specs.Option.{option_copied};
 ghost use Rattle.ix_desk.specs.Groups.{arrival_of, arrivals_but, cut_awaits, cut_seated, is_awaiting, is_finished, is_seated, current_awaits, current_seated, cut_unit, cut_untaken, cut_with, HasNoUnit, HasUnitAt, done_of, cut_but_done, cut_has_work, current_has_work, cut_waits, current_waits, early_waits};
 
+use crate::amounts::{Measure, current_amount, cut_amount, early_amount};
 use crate::desk::Desk;
 use crate::tenures::Tenures;
 use crate::unit::{DeskItem, Unit};
@@ -69,7 +70,7 @@ impl<U: Drop, I: Drop> GroupDesks<U, I> {
     ghost use Rattle.ix_desk.specs.declared.unit.DeskItem.TheVariants.{Work, Tag, Cut, Start};
     ghost use Rattle.ix_desk.specs.Tenures.{has_arrived};
     ghost use Rattle.ix_desk.specs.Groups.{fits, taken, landed, unit_of, untaken, changed, current_unit, current_with, cut_piece_with, no_piece, done_of, shipped, group_has_work, waits, empty, at_home};
-    ghost use Rattle.std.specs.Prelude.{◌<◌, slice_set, slice_index_or};
+    ghost use Rattle.std.specs.Prelude.{◌<◌, ◌-◌, ◌^◌, min, sum_by, slice_set, slice_index_or};
     ghost use Rattle.std.specs.Option.{option_copied_mut};
     ghost use Rattle.std.specs.Borrow.{LendsIf, sem};
     ghost use Rattle.ix_desk.specs.contracts.group.GroupDesks.{the_row};
@@ -317,6 +318,17 @@ impl<U: Drop, I: Drop> GroupDesks<U, I> {
             Err(rest) => rest,
         };
         early_waiting(self.early.as_slice(), i)
+    }
+
+    /// The numbers of the items that wait, added up. The sum stands still at the type's end.
+    pub fn amount<M: Measure<I>>(&self, measure: &M) -> u32
+        ensures { result ≡ min (sum_by (M.amount measure.now) (waits self.now)) (2 ^ 32 - 1) }
+    {
+        let cut = cut_amount(measure, self.cut.as_slice());
+        let current = current_amount(measure, &self.current);
+        let early = early_amount(measure, self.early.as_slice());
+        let rest = current.saturating_add(early);
+        cut.saturating_add(rest)
     }
 }
 

@@ -2,6 +2,7 @@
 #![tactic(auto)]
 
 mod all_groups;
+mod amounts;
 mod batches;
 mod desk;
 mod desks;
@@ -10,5 +11,6 @@ mod tenures;
 mod unit;
 mod working;
 
+pub use amounts::Measure;
 pub use desks::Desks;
 pub use unit::{DeskItem, Shipment, Unit};

@@ -1,16 +1,16 @@
-use Rattle.std.specs.Prelude.{◌||◌, nat_lt, not}
+use Rattle.std.specs.Prelude.{All, ◌||◌, nat_lt, not}
 use Rattle.std.specs.List.{list_any}
 use Rattle.std.proofs.Common.{◌≡◌, ◌<◌, ◌≤◌, ◌-◌, Bool, ◌++◌, ◌∙◌, ap, false, map, sum_by, sym, true, subst, ℕ}
 use Rattle.ix_desk.specs.Pieces.{joined}
 use Rattle.ix_desk.specs.Steps.{AllWorked, group_leaves, leave}
 use Rattle.ix_core.specs.Landing.{parcel_of}
 use Rattle.ix_core.specs.Links.{all_out, all_put, all_taken, homes_weight, link_waits, parcel_lost}
-use Rattle.ix_core.specs.Runs.{run-worked}
+use Rattle.ix_core.specs.Runs.{bounded-worked, run-worked, works_in}
 use Rattle.ix_core.specs.Taking.{Takes}
 use Rattle.ix_core.specs.Turned.{answer_of}
 use Rattle.ix_core.proofs.Aside.{aside_stays}
 use Rattle.ix_core.proofs.Turns.{arrivals, frames_taken, heard_up, homes_same, quiet_so, run_failed, turn_weighs, unfailed, whole_links, whole_run}
-use Rattle.ix_core.proofs.Idling.{idle_so}
+use Rattle.ix_core.proofs.Idling.{idle_drained, idle_so}
 use Rattle.ix_core.proofs.Units.{calm_rests}
 use Rattle.ix_core.proofs.turning.Core.pass.Goals as goal
 
@@ -23,7 +23,8 @@ returns-clause-ran g c =
     let r = c.in_ok-drain_all.ensures.drained in
     let s = c.in_ok-ship_all.ensures.leaves in
     let p = c.in_ok-post.ensures.posts in
-    let worked = run-worked g.G.Unit.counted g.G.Unit.name g.G.Unit.stepped g.G.Unit.advanced g.G.GroupStack.drained c.args.env.now _ _ _ c.in_ok-frames.ensures.worked in
+    let worked = bounded-worked g.G.Unit.counted g.G.Unit.name g.G.Unit.stepped g.G.Unit.advanced g.G.GroupStack.drained c.args.env.now _ _ _ c.in_ok-frames.ensures.worked in
+    let whole = whole_run g.G.Unit.counted g.G.Unit.name g.G.Unit.stepped g.G.Unit.advanced g.G.GroupStack.drained c.args.env.now _ _ _ _ _ _ _ _ _ _ _ h.run d.run worked r.run s.run in
     record {
       items = t.frames ++ t.control;
       dealt = d.items;
@@ -32,10 +33,12 @@ returns-clause-ran g c =
       ins = h.ins;
       frees = r.frees;
       outs = s.outs;
-      run = whole_run g.G.Unit.counted g.G.Unit.name g.G.Unit.stepped g.G.Unit.advanced g.G.GroupStack.drained c.args.env.now _ _ _ _ _ _ _ _ _ _ h.run d.run worked r.run s.run;
+      run = whole.run;
+      bounds = subst (λ (n : ℕ). All (λ max. max ≤ n) (works_in whole.run.events)) c.frames-batch.ensures.is whole.works;
       links = whole_links _ _ _ _ _ _ _ _ h.links r.links s.links c.send_all.ensures.sent;
       lost = s.lost ∙ ap (λ cores. map parcel_of old.lost.items ++ joined (parcel_lost cores) s.outs) (r.links.cores ∙ h.links.cores);
       posts = p.posts;
+      own = p.own;
       put = p.put;
       few = frames_taken t.frames t.control _ _ t.all t.number p.few;
       home = c.give_back.ensures.pool.0 ∙ p.home;
@@ -105,3 +108,12 @@ pub returns-clause-idle : goal.returns-clause-idle
 returns-clause-idle g c = λ is.
     let some : 1 ≤ c.args.self.now.batch = subst (λ (n : ℕ). 1 ≤ n) c.frames-batch.ensures.is c.frames-batch.ensures.some in
     idle_so g.G.Unit.counted g.G.Unit.name g.G.Unit.stepped g.G.Unit.advanced g.G.GroupStack.drained c.args.env.now _ _ _ some (returns-clause-parts g c) (returns-clause-ran g c) (returns-clause-nothing g c) is
+
+pub returns-clause-drained : goal.returns-clause-drained
+returns-clause-drained g c = λ is same.
+    let old = c.args.self.now in
+    let h = c.in_ok-heard.ensures.heard in
+    let r = c.in_ok-drain_all.ensures.drained in
+    let s = c.in_ok-ship_all.ensures.leaves in
+    idle_drained g.G.Unit.counted g.G.Unit.name g.G.Unit.stepped g.G.Unit.advanced g.G.GroupStack.drained c.args.env.now _ _ _ _ _ _ (whole_links _ _ _ _ _ _ _ _ h.links r.links s.links c.send_all.ensures.sent)
+    (s.lost ∙ ap (λ cores. map parcel_of old.lost.items ++ joined (parcel_lost cores) s.outs) (r.links.cores ∙ h.links.cores)) (returns-clause-idle g c is) s.run r.clean same

@@ -1,0 +1,4 @@
+pub mod Acts
+pub mod Right
+pub mod Going
+pub mod Rings

@@ -1,0 +1,12 @@
+pub mod Crews
+pub mod Histories
+pub mod Learning
+pub mod Links
+pub mod Meetings
+pub mod Places
+pub mod Played
+pub mod Readiness
+pub mod Resting
+pub mod Rounds
+pub mod Spans
+pub mod Weighing

@@ -1,0 +1,9 @@
+pub mod Lists
+pub mod Ports
+pub mod Steps
+pub mod Following
+pub mod Turned
+pub mod Opening
+pub mod CarriedOut
+pub mod PortSteps
+pub mod Chains

@@ -1,0 +1,5 @@
+pub mod Sums
+pub mod EpochLaws
+pub mod SettleLaws
+pub mod OwnLaws
+pub mod HomeLaws

@@ -1,0 +1,13 @@
+pub mod Distinct
+pub mod Keys
+pub mod Numbered
+pub mod Turns
+pub mod ToldLaws
+pub mod Placing
+pub mod Replaced
+pub mod FiledLaws
+pub mod FitLaws
+pub mod NumberLaws
+pub mod KeyLaws
+pub mod SetLaws
+pub mod DecidedLaws

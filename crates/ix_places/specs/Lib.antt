@@ -1,0 +1,3 @@
+pub mod Told
+pub mod Filed
+pub mod Laws

@@ -1,0 +1,14 @@
+pub mod KeptLaws
+pub mod NumberSteps
+pub mod CycleSteps
+pub mod Owes
+pub mod Ended
+pub mod Wide
+pub mod Ladder
+pub mod Pays
+pub mod Stands
+pub mod Behind
+pub mod Hush
+pub mod Runs
+pub mod Told
+pub mod StackStands

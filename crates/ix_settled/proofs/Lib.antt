@@ -1,0 +1,9 @@
+pub mod Dues
+pub mod Numbers
+pub mod Settles
+pub mod Cutting
+pub mod Below
+pub mod Waiting
+pub mod Ending
+pub mod Chain
+pub mod Renaming

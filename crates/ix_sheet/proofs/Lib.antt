@@ -1,0 +1,12 @@
+pub mod LineLaws
+pub mod RangeLaws
+pub mod Counts
+pub mod StrayLaws
+pub mod ConnLaws
+pub mod SheetLaws
+pub mod Printed
+pub mod Dues
+pub mod Groups
+pub mod Plays
+pub mod FitLaws
+pub mod TestLaws

@@ -1,0 +1,5 @@
+pub mod Framed
+pub mod Short
+pub mod Obeys
+pub mod Parts
+pub mod Records
