@@ -1,4 +1,5 @@
 // The laws.
+ghost use Rattle.ix_tells.specs.Counts.{BuffersAreOnce, SettlesCount};
 ghost use Rattle.ix_tells.specs.Stays.{HomesStay, OpeningsAreHome};
 ghost use Rattle.ix_tells.specs.Wholes.{SettlesAreWhole};
 
@@ -31,4 +32,16 @@ pub fn homes_stay<G: GroupStack>()
     buffers_are_held::<G>();
     homes_add_up::<G>();
     uses_are_told();
+}
+
+/// Nothing happens here: the contract says what a settle tells of the buffers that are out of the pools.
+///
+/// - `counts`: the numbers of frames that wait at desks, and of those that flow groups hold, lent and queue, on all cores; none of them stands at
+///   the end of its type.
+/// - `once`: no buffer is at the desks twice.
+pub fn buffers_are_counted<G: GroupStack>()
+    ensures counts { SettlesCount G G.Env G.drained G.weight G.owners }
+    ensures once { BuffersAreOnce G G.Env G.drained G.weight }
+{
+    homes_add_up::<G>();
 }

@@ -3,4 +3,4 @@
 
 mod laws;
 
-pub use laws::{homes_stay, settles_are_told};
+pub use laws::{buffers_are_counted, homes_stay, settles_are_told};

@@ -1,0 +1,4 @@
+pub mod Homes
+pub mod Cores
+pub mod Going
+pub mod Clear

@@ -1,0 +1,14 @@
+//! The engine of a play on 1 to 8 cores: the card and the cores, epoch by epoch, from the opening to the close.
+#![tactic(auto)]
+
+mod closing;
+mod course;
+mod dialing;
+mod opening;
+mod settling;
+
+pub use closing::{Left, close_cores};
+pub use course::{Machine, run_epochs};
+pub use dialing::dial;
+pub use opening::open;
+pub use settling::{meet_cores, settle_cores};
