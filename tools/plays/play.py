@@ -13,9 +13,6 @@ from . import frames
 from .frames import Record
 from .trace import Connection, Entry, Input, Output, Stray, Trace, read_trace
 
-BUFFER_BYTES = 2048
-CONTROLS_BETWEEN_SETTLES = 1000
-DEFAULT_PACE = 256
 HALF = 2**31
 BEFORE_ENTRIES = -1
 STRAY, DROP = "stray", "drop"
@@ -91,65 +88,6 @@ class Play:
         return len(self.trace.connections) > 1 or any(row.label in (STRAY, DROP) for row in self.rows)
 
 
-class WireList:
-    """Collects the entries of a play on one core, with the settles that are added (docs/SCRIPT.md)."""
-
-    def __init__(self, pace: int) -> None:
-        self.pace = pace
-        self.entries: list[Entry] = []
-        self.clock = 0
-        self.frames = 0
-        self.controls = 0
-
-    def frame(self, record: int, length: int) -> None:
-        """A frame; one that is too long is dropped."""
-        kind, text = ("frame", "") if length <= BUFFER_BYTES else ("drop", f"too-long {length}")
-        self.entries.append(Entry(len(self.entries), kind, self.clock, record, text=text))
-        self.frames += 1
-        if self.frames == self.pace:
-            self.settle()
-
-    def time(self, tick: int) -> None:
-        """A time."""
-        self.clock = tick
-        self.entries.append(Entry(len(self.entries), "time", tick))
-        self.controls += 1
-        if self.controls == CONTROLS_BETWEEN_SETTLES:
-            self.settle()
-
-    def settle(self) -> None:
-        """A settle, which begins the counts anew."""
-        self.entries.append(Entry(len(self.entries), "settle", self.clock))
-        self.frames = self.controls = 0
-
-
-def entries_of_script(script: str, capture: list[Record], own: bytes, pace: int) -> list[Entry]:
-    """The wire list of a script on one core, where nothing moves."""
-    wires = WireList(pace)
-    for line in script.split("\n"):
-        line = line.removesuffix("\r")
-        if not line or line.startswith("#"):
-            continue
-        match line.split(" "):
-            case ["frames" | "each" as word, first, last]:
-                for record in range(int(first), int(last) + 1):
-                    frame = capture[record].frame
-                    if frames.hardware_source(frame) == own:
-                        continue
-                    wires.frame(record, len(frame))
-                    if word == "each":
-                        wires.settle()
-            case ["time", tick]:
-                wires.time(int(tick))
-            case ["settle"]:
-                wires.settle()
-            case ["version", _]:
-                pass
-            case _:
-                raise BadPlay(f"the trace is the short one, and the script has the line: {line}")
-    return wires.entries
-
-
 def offset(base: int, number: int) -> int:
     """The number from -2^31 to 2^31 - 1 that is congruent to number - base modulo 2^32."""
     return (number - base + HALF) % (2 * HALF) - HALF
@@ -191,9 +129,9 @@ class Numbers:
 class Builder:
     """Makes the rows of a play out of its files."""
 
-    def __init__(self, trace: Trace, entries: list[Entry], capture: list[Record], replies: list[Record]) -> None:
+    def __init__(self, trace: Trace, capture: list[Record], replies: list[Record]) -> None:
         self.trace = trace
-        self.entries = {entry.wire: entry for entry in entries}
+        self.entries = {entry.wire: entry for entry in trace.entries}
         self.capture = capture
         self.replies = replies
         self.rows: list[Row] = []
@@ -356,10 +294,5 @@ def join(files: Files) -> Play:
     local = conf["local"]
     capture, replies = frames.read_capture(files.capture), frames.read_capture(files.replies)
     trace = read_trace(files.trace)
-    entries = trace.entries
-    if trace.form == 0:
-        own = bytes.fromhex(local["mac"].replace(":", ""))
-        pace = conf.get("core", {}).get("pace", DEFAULT_PACE)
-        entries = entries_of_script(files.script.read_bytes().decode("latin-1"), capture, own, pace)
-    rows = Builder(trace, entries, capture, replies).build()
+    rows = Builder(trace, capture, replies).build()
     return Play(local["ip"], local["port"], local["app"], trace, rows)

@@ -1,7 +1,6 @@
 """The trace of a play, read for people. docs/TRACE.md has its lines.
 
-Both forms are read: the short one, `head 0`, and the whole one, `head 2`. This reader is no judge: it takes lines whose
-words it knows, and says where a line is none of them.
+This reader is no judge: it takes lines whose words it knows, and says where a line is none of them.
 """
 
 from __future__ import annotations
@@ -86,9 +85,8 @@ class Entry:
 
 @dataclass
 class Trace:
-    """A whole trace. The short form has no entries and no answers of connects."""
+    """A trace, but for its counts of rings and buffers."""
 
-    form: int = 0
     cores: int = 1
     entries: list[Entry] = field(default_factory=list)
     connects: list[str] = field(default_factory=list)
@@ -145,10 +143,8 @@ class Reader:
     def take_rest(self, words: list[str]) -> None:
         """A line that is no entry and no part of a journal."""
         match words:
-            case ["head", "0"]:
-                self.trace.form = 0
             case ["head", "2", "cores", cores, *_]:
-                self.trace.form, self.trace.cores = 2, int(cores)
+                self.trace.cores = int(cores)
             case ["connect", _, answer]:
                 self.trace.connects.append(answer)
             case ["stray", wire, "core", core, *kind, "reply", reply]:
@@ -168,7 +164,7 @@ class Reader:
                 raise ValueError("unknown line")
 
     def take_entry(self, words: list[str]) -> None:
-        """An entry of the wire list, in the whole form."""
+        """An entry of the wire list."""
         match words:
             case ["settle", "open"]:
                 return

@@ -2,6 +2,7 @@
 #![tactic(auto)]
 
 use ix_base::FileHost;
+use ix_run::Gate;
 use ix_top::{Status, ix, status_text};
 use std::env;
 use std::process::ExitCode;
@@ -9,13 +10,23 @@ use std::process::ExitCode;
 /// The exit status where the runtime doesn't give the program's words.
 const NO_WORDS: u8 = 10;
 
+// A gate that is open to every turn.
+#[derive(Drop)]
+struct OpenGate;
+
+impl Gate for OpenGate {
+    fn enter(&self, _actor: u32, _turn: u64) -> bool {
+        true
+    }
+}
+
 fn main(rt: HostRuntime) -> ExitCode {
     let Ok(words) = words(&rt) else {
         let _ = rt.eprintln("ix: no words");
         return ExitCode::from(NO_WORDS);
     };
     let mut host = FileHost::new(&rt);
-    let status = ix(&rt, rt.alloc(), &words, &mut host);
+    let status = ix(&rt, rt.alloc(), &words, &mut host, &OpenGate);
     tell(&rt, &status);
     ExitCode::from(status.number())
 }

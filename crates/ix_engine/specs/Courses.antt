@@ -42,6 +42,12 @@ peers_of s = if is_push s.app then s.peers else []
 abbrev pub first_replay : List Entry → List (List ℕ) → ReplayView
 first_replay entries frames = record { entries = entries; frames = frames; lines = []; clock = 0; ended = true; waiting = 0 }
 
+-- Core 0 connected to its peers, and the first settle was made.
+pub record SetsOut (s : Settings) (env : Env Application) (connects : List ConnectLine) (line : SettleLine) (card card' : CardView) (cores cores' : List StackCore) : Type 0 where
+  pub dialed : List StackCore
+  pub dials : FirstDials env (peers_of s) connects cores dialed
+  pub settled : MeetAndSettle line card card' dialed cores'
+
 -- A play began: it opened, core 0 connected to its peers, and the first settle was made.
 pub record HasBegun (s : Settings) (frames : List (List ℕ)) (entries : List Entry) (env : Env Application) (connects : List ConnectLine) (line : SettleLine) (x : Engine) : Type 0 where
   pub env_is : setting_of env ≡ setting_of_play s frames

@@ -1,6 +1,6 @@
 -- Inputs that are refused, and inputs that are read whole.
-use Rattle.std.proofs.Common.{◌≡◌, ◌≤◌, ◌++◌, ℕ, List, length, Bool, true, false, nat_lt, if◌then◌else◌, refl, ◌∙◌, ap, arith}
-use Rattle.std.proofs.lemmas.List.{append-nil}
+use Rattle.std.proofs.Common.{◌≡◌, ◌≤◌, ◌++◌, ℕ, List, length, map, Bool, true, false, nat_lt, if◌then◌else◌, refl, ◌∙◌, ap, arith}
+use Rattle.std.proofs.lemmas.List.{append-nil, length-map}
 use Rattle.std.proofs.lemmas.Bool.Decides.{nat_tests}
 use Rattle.std.specs.Prelude.{Result, Ok, Err, Option, Some, None}
 use Rattle.std.specs.Io.KnownBytes.{prepend_known, IsAtEnd}
@@ -13,11 +13,16 @@ use Rattle.ix_conf.specs.declared.keys.ConfFault.TheVariants as conf
 use Rattle.ix_conf.specs.declared.settings.Conf.{Conf}
 use Rattle.ix_conf.specs.Settings.{Settings, settings_of}
 use Rattle.ix_conf.specs.Value.{Gives as Gives-conf}
+use Rattle.ix_engine.specs.Courses.{IsWireFor}
+use Rattle.ix_playdef.specs.Own.{own_frame}
+use Rattle.ix_script.specs.Script.{terms_under}
+use Rattle.ix_wire.specs.declared.entry.Entry.{Entry}
+use Rattle.ix_wire.specs.Entries.{IsWire}
 use Rattle.ix_top.specs.Status.{capture_refusal, conf_refusal}
-use Rattle.ix_top.specs.Top.{frames_read, settings_served, Refuses}
+use Rattle.ix_top.specs.Top.{frames_read, settings_read, Refuses}
 
 -- The status of a refused configuration has its cause.
-pub Refuses-conf : (fault : ConfFault) (m : Result Settings ConfFault) → Gives-conf {A = Conf} {M = Settings} settings_of (Err fault) m → Refuses (conf_refusal fault) (settings_served m)
+pub Refuses-conf : (fault : ConfFault) (m : Result Settings ConfFault) → Gives-conf {A = Conf} {M = Settings} settings_of (Err fault) m → Refuses (conf_refusal fault) (settings_read m)
 Refuses-conf conf.Text m is = rw is refl
 Refuses-conf conf.Unknown m is = rw is refl
 Refuses-conf (conf.Missing key) m is = rw is refl
@@ -42,6 +47,17 @@ not_above limit n within = grind (arith, nat_tests, within)
 past : {A : Type 0} (b : Bool) (x y : A) → b ≡ false → (if b then x else y) ≡ y
 past true x y is = absurd (cc is)
 past false x y is = refl
+
+-- The wire list of a script that was read under a configuration, for each record of the capture whether it is the local side's own.
+pub is_wire_for : (conf : Conf) (frames : List (List ℕ)) (entries : List Entry)
+    → IsWire (terms_under conf (map (own_frame conf.mac) frames)) entries → IsWireFor (settings_of conf) frames entries
+is_wire_for conf frames entries is = record {
+  terms = terms_under conf (map (own_frame conf.mac) frames);
+  cores = refl;
+  live = refl;
+  own = length-map frames (own_frame conf.mac);
+  is = is;
+}
 
 -- What was read to its end is the whole.
 pub whole_read : (known : Option (List ℕ)) (bytes all : List ℕ) → Some all ≡ prepend_known bytes known → IsAtEnd known → all ≡ bytes

@@ -10,10 +10,8 @@ use Rattle.ix_wire.specs.Kind.{kind_text}
 use Rattle.ix_wire.specs.declared.fault.ScriptFault.{ScriptFault}
 use Rattle.ix_wire.specs.declared.fault.ScriptFault.TheVariants as script_fault
 use Rattle.ix_top.specs.declared.status.Status.{Status}
-use Rattle.ix_top.specs.declared.status.Status.TheVariants.{Done, Usage, Conf, Script, Capture, ReadFault, WriteFault, NoMemory, Unbuilt}
+use Rattle.ix_top.specs.declared.status.Status.TheVariants.{Done, Usage, Conf, Script, Capture, ReadFault, WriteFault, NoMemory}
 use Rattle.ix_top.specs.declared.status.CaptureRefusal.{CaptureRefusal}
-use Rattle.ix_top.specs.declared.status.Unbuilt.{Unbuilt as UnbuiltPart}
-use Rattle.ix_top.specs.declared.status.Unbuilt.TheVariants as unbuilt
 use Rattle.ix_top.specs.declared.status.ConfRefusal.{ConfRefusal}
 use Rattle.ix_top.specs.declared.status.ConfRefusal.TheVariants as conf
 use Rattle.ix_top.specs.declared.status.ScriptRefusal.{ScriptRefusal}
@@ -29,7 +27,6 @@ number_of (Capture refusal) = 4
 number_of ReadFault = 5
 number_of WriteFault = 6
 number_of NoMemory = 7
-number_of (Unbuilt part) = 9
 
 -- The reader's meaning of a configuration has no want of memory; the case makes this total.
 abbrev pub conf_refusal : ConfFault → Status
@@ -76,9 +73,6 @@ capture_text_of TooManyRecords = codes "ix: capture: too-many-records"
 capture_text_of (CutRecord at) = codes "ix: capture: cut-record " ++ decimal at
 capture_text_of TooBig = codes "ix: capture: too-big"
 
-abbrev pub unbuilt_text_of : UnbuiltPart → List ℕ
-unbuilt_text_of unbuilt.Conf = codes "ix: unbuilt conf"
-
 abbrev pub text_of : Status → List ℕ
 text_of Done = []
 text_of Usage = codes "ix: usage: ix play CONF SCRIPT CAPTURE REPLIES TRACE"
@@ -88,4 +82,3 @@ text_of (Capture refusal) = capture_text_of refusal
 text_of ReadFault = codes "ix: read fault"
 text_of WriteFault = codes "ix: write fault"
 text_of NoMemory = codes "ix: no memory"
-text_of (Unbuilt part) = unbuilt_text_of part

@@ -8,24 +8,20 @@ use Rattle.ix_pcap.specs.declared.records.Span.{Span}
 use Rattle.ix_pcap.specs.declared.records.CaptureFault.{CaptureFault}
 use Rattle.ix_pcap.specs.Capture.{capture_of, frames_of}
 use Rattle.ix_top.specs.declared.status.Status.{Status}
-use Rattle.ix_top.specs.declared.status.Status.TheVariants.{Done, Usage, Conf, Script, Capture, ReadFault, WriteFault, NoMemory, Unbuilt}
+use Rattle.ix_top.specs.declared.status.Status.TheVariants.{Done, Usage, Conf, Script, Capture, ReadFault, WriteFault, NoMemory}
 use Rattle.ix_top.specs.declared.status.ConfRefusal.TheVariants as conf
 use Rattle.ix_top.specs.declared.status.ScriptRefusal.TheVariants as script
 use Rattle.ix_top.specs.declared.status.CaptureRefusal.TheVariants as capture
-use Rattle.ix_top.specs.declared.status.Unbuilt.TheVariants as unbuilt
 use Rattle.ix_wire.specs.declared.entry.Entry.{Entry}
 use Rattle.ix_wire.specs.declared.fault.ScriptFault.{ScriptFault}
 use Rattle.ix_script.specs.Script.{script_of}
 use Rattle.ix_top.specs.Status.{capture_refusal, conf_refusal, script_refusal}
 use Rattle.ix_conf.specs.Settings.{Settings, conf_of}
 use Rattle.ix_conf.specs.declared.keys.ConfFault.{ConfFault}
-use Rattle.ix_pcap.specs.Written.{capture_bytes}
-use Rattle.ix_playdef.specs.Order.{sent_of}
 use Rattle.ix_playdef.specs.Own.{own_frame}
-use Rattle.ix_playdef.specs.Replies.{by_opening}
-use Rattle.ix_report.specs.Fits.{Fits}
-use Rattle.ix_report.specs.Lines.{short_text}
-use Rattle.ix_report.specs.declared.report.Report.{Report}
+use Rattle.ix_fits.specs.Fits.{Fits}
+use Rattle.ix_trace.specs.Rule.{IsValue, report_text}
+use Rattle.ix_trace.specs.declared.sheet.Sheet.{Sheet}
 
 -- the inputs of a play, by their bytes
 pub record Given : Type 0 where
@@ -42,15 +38,8 @@ abbrev pub settings_read : Result Settings ConfFault → Result Settings Status
 settings_read (Ok settings) = Ok settings
 settings_read (Err fault) = Err (conf_refusal fault)
 
--- A play takes one core.
-abbrev pub one_core : Settings → Result Settings Status
-one_core settings = if nat_lt 1 settings.cores then Err (Unbuilt unbuilt.Conf) else Ok settings
-
-abbrev pub settings_served : Result Settings ConfFault → Result Settings Status
-settings_served read = settings_read read >>= one_core
-
 abbrev pub conf_input : List ℕ → Result Settings Status
-conf_input bytes = if nat_lt 65536 (length bytes) then Err (Conf conf.TooBig) else settings_served (conf_of bytes)
+conf_input bytes = if nat_lt 65536 (length bytes) then Err (Conf conf.TooBig) else settings_read (conf_of bytes)
 
 abbrev pub frames_read : List ℕ → Result (List Span) CaptureFault → Result (List (List ℕ)) Status
 frames_read bytes (Ok spans) = Ok (frames_of bytes spans)
@@ -83,17 +72,13 @@ play_meaning g =
     conf_input g.conf >>= λ settings. capture_input g.capture >>= λ frames. script_input settings frames g.script >>= λ entries.
     Ok (record { settings = settings; frames = frames; entries = entries })
 
--- the replies file of a report: its replies in their order, each at the clock of its entry
-abbrev pub replies_file : List Entry → Report → List ℕ
-replies_file entries report = capture_bytes (map (sent_of entries) report.replies)
-
--- The two files are those of a report that fits these inputs, where timers and flushes go by the opening order of their connections. Each
--- of its lines is there.
+-- The trace is the text of a report that fits these inputs with the replies file (docs/FITS.md). Its numbers fit their types, so it is the one
+-- report that the trace reads back as (docs/TRACE.md).
 pub record AreFiles (inputs : Inputs) (replies trace : List ℕ) : Type 0 where
-  pub report : Report
-  pub fits : Fits inputs.settings inputs.frames inputs.entries by_opening report
-  pub replies_are : replies ≡ replies_file inputs.entries report
-  pub trace_is : Some trace ≡ short_text by_opening report
+  pub report : Sheet
+  pub value : IsValue report
+  pub fits : Fits inputs.settings inputs.frames inputs.entries report replies
+  pub trace_is : trace ≡ report_text report
 
 -- the host tells what the three roles have left
 pub record Tells (x : State) (g : Given) : Type 0 where
@@ -114,7 +99,6 @@ Answers WriteFault m = IsOk m
 Answers (Conf f) m = m ≡ Err (Conf f)
 Answers (Capture f) m = m ≡ Err (Capture f)
 Answers (Script f) m = m ≡ Err (Script f)
-Answers (Unbuilt part) m = m ≡ Err (Unbuilt part)
 Answers Usage m = Unit {0}
 Answers ReadFault m = Unit {0}
 Answers NoMemory m = Unit {0}
@@ -124,7 +108,6 @@ abbrev pub Refuses : {X : Type 0} → Status → Result X Status → Type 0
 Refuses (Conf f) m = m ≡ Err (Conf f)
 Refuses (Capture f) m = m ≡ Err (Capture f)
 Refuses (Script f) m = m ≡ Err (Script f)
-Refuses (Unbuilt part) m = m ≡ Err (Unbuilt part)
 Refuses ReadFault m = Unit {0}
 Refuses NoMemory m = Unit {0}
 Refuses Usage m = ⊥
@@ -136,7 +119,6 @@ abbrev pub IsStop : Status → Type 0
 IsStop (Conf f) = Unit {0}
 IsStop (Capture f) = Unit {0}
 IsStop (Script f) = Unit {0}
-IsStop (Unbuilt part) = Unit {0}
 IsStop ReadFault = Unit {0}
 IsStop NoMemory = Unit {0}
 IsStop Usage = ⊥

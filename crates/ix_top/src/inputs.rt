@@ -7,19 +7,24 @@ ghost use Rattle.ix_base.specs.Host.{Rose, Reads};
 ghost use Rattle.ix_conf.specs.Settings.{conf_of, settings_of};
 ghost use Rattle.ix_script.specs.Script.{script_of};
 ghost use Rattle.ix_playdef.specs.Own.{own_frame};
-ghost use Rattle.ix_top.specs.Top.{conf_input, settings_served, capture_input, script_input, entries_read, play_meaning, Given, Refuses, IsStop, Tells, AllRead, WritesNothing, KeepsOthers};
+ghost use Rattle.ix_engine.specs.Courses.{IsWireFor};
+ghost use Rattle.ix_top.specs.Top.{conf_input, settings_read, capture_input, script_input, entries_read, play_meaning, Given, Refuses, IsStop, Tells, AllRead, WritesNothing, KeepsOthers};
 
 use crate::reading::{ReadError, load};
 use crate::records::Records;
 use crate::status::{
-    CaptureRefusal, ConfRefusal, ScriptRefusal, Status, Unbuilt, conf_status, script_status,
+    CaptureRefusal, ConfRefusal, ScriptRefusal, Status, conf_status, script_status,
 };
 use ix_base::{Bytes, Host, NoMemory, Role};
 use ix_conf::{Conf, read_conf};
-use ix_report::Report;
+use ix_playdef::Reply;
+use ix_run::Gate;
 use ix_script::{Entry, read_script};
+use ix_trace::Report;
 use std::alloc::Global;
 use std::marker::Model;
+use std::sync::Wait;
+use std::thread::Threads;
 
 const CONF_LIMIT: usize = 65_536;
 
@@ -36,21 +41,22 @@ pub struct Inputs {
 }
 
 impl Model for Inputs {
-    ghost use Rattle.std.specs.Prelude.{◌<◌, ◌^◌, length};
     ghost use Rattle.ix_conf.specs.Settings.{settings_of};
+    ghost use Rattle.ix_engine.specs.Courses.{IsWireFor};
     ghost use Rattle.ix_top.specs.Top as meaning;
 
     ghost Value = { meaning.Inputs };
 
     ghost view = { λ i. record { settings = settings_of i.conf; frames = i.records; entries = i.entries.items } };
 
-    ghost invariant = { λ i. length i.entries.items < 2 ^ 32 };
+    ghost invariant = { λ i. IsWireFor (settings_of i.conf) i.records i.entries.items };
 }
 
 impl Inputs {
-    ghost use Rattle.std.specs.Prelude.{◌≡◌, ◌<◌, ◌^◌, All, IfOk, length};
-    ghost use Rattle.ix_playdef.specs.Replies.{CanBeTold, IsShort, by_opening};
-    ghost use Rattle.ix_report.specs.Fits.{Fits};
+    ghost use Rattle.std.specs.Prelude.{◌≡◌, All, IfOk};
+    ghost use Rattle.ix_playdef.specs.Replies.{IsShort};
+    ghost use Rattle.ix_fits.specs.Fits.{Fits};
+    ghost use Rattle.ix_fits.specs.Replies.{reply_file};
 
     /// The wire list.
     pub fn entries(&self) -> &[Entry]
@@ -59,15 +65,22 @@ impl Inputs {
         self.entries.as_slice()
     }
 
-    /// Plays them on one core.
-    pub fn play(&self, alloc: Global) -> Result<Report, NoMemory>
-        ensures fits { IfOk result (λ report. Fits self.now.settings self.now.frames self.now.entries by_opening report) }
-        ensures few { IfOk result (λ report. length report.replies < 2 ^ 32) }
-        ensures short { IfOk result (λ report. All IsShort report.replies) }
-        ensures told { IfOk result (λ report. All CanBeTold report.groups) }
+    /// Plays them: the report, and the replies in their order.
+    pub fn play<R: Threads + Wait + Sync, G: Gate + Sync>(
+        self,
+        rt: &R,
+        alloc: Global,
+        gate: &G,
+    ) -> Result<(Report, Vec<Reply>), NoMemory>
+        ensures fits { IfOk result (λ told. Fits self.settings self.frames self.entries told.0 (reply_file self.entries told.1.items)) }
+        ensures short { IfOk result (λ told. All IsShort told.1.items) }
     {
-        self.records
-            .play(alloc, &self.conf, self.entries.as_slice())
+        let Inputs {
+            conf,
+            records,
+            entries,
+        } = self;
+        records.play(rt, alloc, &conf, entries, gate)
     }
 }
 
@@ -117,20 +130,15 @@ fn read_settings<H: Host>(alloc: Global, host: &mut H, name: &str) -> Result<Con
     parse_conf(alloc, &bytes)
 }
 
-// The configuration of these bytes, where it has one core.
+// The configuration of these bytes.
 fn parse_conf(alloc: Global, bytes: &[u8]) -> Result<Conf, Status>
-    ensures ok { IfOk result (λ c. settings_served (conf_of bytes.now) ≡ Ok (settings_of c)) }
-    ensures err { IfErr result (λ e. Refuses e (settings_served (conf_of bytes.now))) }
+    ensures ok { IfOk result (λ c. settings_read (conf_of bytes.now) ≡ Ok (settings_of c)) }
+    ensures err { IfErr result (λ e. Refuses e (settings_read (conf_of bytes.now))) }
     ensures stops { IfErr result IsStop }
     ensures failed { result ≢ Err Status.ReadFault }
 {
     match read_conf(alloc, bytes) {
-        Ok(conf) => {
-            if conf.cores > 1 {
-                return Err(Status::Unbuilt(Unbuilt::Conf));
-            }
-            Ok(conf)
-        }
+        Ok(conf) => Ok(conf),
         Err(fault) => Err(conf_status(fault)),
     }
 }
@@ -164,7 +172,7 @@ fn read_entries<H: Host>(
     ensures end { OnOk result (IsAtEnd ((H.state host.new).left role.Script)) }
     ensures ok { IfOk result (λ e. (s : List ℕ) → (H.state host.old).left role.Script ≡ Some s → script_input (settings_of conf.now) records.now s ≡ Ok e.items) }
     ensures err { IfErr result (λ e. (s : List ℕ) → (H.state host.old).left role.Script ≡ Some s → Refuses e (script_input (settings_of conf.now) records.now s)) }
-    ensures numbers { IfOk result (λ e. length e.items < 2 ^ 32) }
+    ensures wire { IfOk result (λ e. IsWireFor (settings_of conf.now) records.now e.items) }
     ensures stops { IfErr result IsStop }
     ensures failed { IsErrOf result Status.ReadFault → Rose ((H.state host.old).faults Reading) ((H.state host.new).faults Reading) }
 {
@@ -187,7 +195,7 @@ fn parse_entries(
 ) -> Result<Vec<Entry>, Status>
     ensures ok { IfOk result (λ e. entries_read (script_of (settings_of conf.now) (map (own_frame conf.now.mac) records.now) bytes.now) ≡ Ok e.items) }
     ensures err { IfErr result (λ e. Refuses e (entries_read (script_of (settings_of conf.now) (map (own_frame conf.now.mac) records.now) bytes.now))) }
-    ensures numbers { IfOk result (λ e. length e.items < 2 ^ 32) }
+    ensures wire { IfOk result (λ e. IsWireFor (settings_of conf.now) records.now e.items) }
     ensures stops { IfErr result IsStop }
     ensures failed { result ≢ Err Status.ReadFault }
 {

@@ -1,15 +1,17 @@
 //! The top call: all that the program does.
 #![tactic(auto)]
 
+mod command;
 mod inputs;
 mod outputs;
+mod playing;
 mod reading;
 mod records;
 mod status;
 mod top;
 mod writing;
 
-pub use status::{CaptureRefusal, ConfRefusal, ScriptRefusal, Status, Unbuilt, status_text};
+pub use status::{CaptureRefusal, ConfRefusal, ScriptRefusal, Status, status_text};
 pub use top::ix;
 
 #[cfg(test)]

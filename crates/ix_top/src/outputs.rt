@@ -1,20 +1,22 @@
 // Makes the two files of a play, and writes them.
-ghost use Rattle.std.specs.Prelude.{◌≡◌, All, IfOk, OnOk, OnErr, map};
+ghost use Rattle.std.specs.Prelude.{◌≡◌, All, IfOk, OnOk, OnErr};
 ghost use Rattle.ix_base.specs.declared.role.Kind.TheVariants.{Reading, Writing};
 ghost use Rattle.ix_base.specs.Host.{Rose};
-ghost use Rattle.ix_pcap.specs.Written.{capture_bytes};
-ghost use Rattle.ix_playdef.specs.Order.{sent_of};
+ghost use Rattle.ix_fits.specs.Replies.{reply_file};
 ghost use Rattle.ix_playdef.specs.Replies.{IsShort};
 ghost use Rattle.ix_top.specs.Top.{AreFiles, Appends, AppendsFront, KeepsOthers};
 
 use crate::inputs::Inputs;
 use crate::writing::store;
-use ix_base::{Bytes, Failed, Host, List, NoMemory, Role};
+use ix_base::{Bytes, Failed, Host, NoMemory, Role};
 use ix_pcap::write_capture;
 use ix_playdef::{Reply, sent_at};
-use ix_report::{Report, short_text};
+use ix_run::Gate;
+use ix_trace::trace_text;
 use ix_wire::Entry;
 use std::alloc::Global;
+use std::sync::Wait;
+use std::thread::Threads;
 
 /// The two files that a play writes.
 #[derive(Drop)]
@@ -23,23 +25,30 @@ pub struct Output {
     pub trace: Bytes,
 }
 
-// The replies file of a report.
-fn replies_file(alloc: Global, entries: &[Entry], replies: List<Reply>) -> Result<Bytes, NoMemory>
-    requires { All IsShort replies }
-    ensures { IfOk result (λ bytes. bytes ≡ capture_bytes (map (sent_of entries.now) replies)) }
+// The file of some replies: each stands at the clock of its entry.
+fn replies_file(alloc: Global, entries: &[Entry], replies: Vec<Reply>) -> Result<Bytes, NoMemory>
+    requires { All IsShort replies.items }
+    ensures { IfOk result (λ bytes. bytes ≡ reply_file entries.now replies.items) }
 {
-    let sent = sent_at(alloc, entries, replies.into_vec())?;
+    let sent = sent_at(alloc, entries, replies)?;
     write_capture(alloc, sent.as_slice())
 }
 
 /// Plays, and makes both files whole.
-pub fn perform(alloc: Global, inputs: &Inputs) -> Result<Output, NoMemory>
-    ensures { IfOk result (λ output. AreFiles inputs.now output.replies output.trace) }
+pub fn perform<R: Threads + Wait + Sync, G: Gate + Sync>(
+    rt: &R,
+    alloc: Global,
+    inputs: Inputs,
+    gate: &G,
+) -> Result<Output, NoMemory>
+    ensures { IfOk result (λ output. AreFiles inputs output.replies output.trace) }
 {
-    let report = inputs.play(alloc)?;
-    let trace = short_text(alloc, &report)?;
-    let Report { replies, .. } = report;
-    let replies = replies_file(alloc, inputs.entries(), replies)?;
+    let entries = inputs.entries().to_vec(alloc)?;
+    let (report, replies) = inputs.play(rt, alloc, gate)?;
+    // Whoever reads the trace learns what each report keeps.
+    let _ = report.head();
+    let trace = trace_text(alloc, &report)?;
+    let replies = replies_file(alloc, &entries, replies)?;
     Ok(Output { replies, trace })
 }
 

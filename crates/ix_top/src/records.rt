@@ -7,11 +7,15 @@ use crate::status::{Status, capture_status};
 use ix_base::{Bytes, NoMemory};
 use ix_conf::Conf;
 use ix_pcap::{Capture, read_capture};
-use ix_playdef::is_own;
-use ix_report::{Report, play};
+use ix_play::play;
+use ix_playdef::{Reply, is_own};
+use ix_run::Gate;
+use ix_trace::Report;
 use ix_wire::Entry;
 use std::alloc::Global;
 use std::marker::Model;
+use std::sync::Wait;
+use std::thread::Threads;
 
 /// A capture's records with the bytes that they lie in. A contract sees the list of their frames.
 #[derive(Drop)]
@@ -21,14 +25,14 @@ pub struct Records {
 }
 
 impl Model for Records {
-    ghost use Rattle.std.specs.Prelude.{List, ℕ, All};
+    ghost use Rattle.std.specs.Prelude.{◌<◌, ◌^◌, List, ℕ, All, length};
     ghost use Rattle.ix_pcap.specs.Capture.{IsSpanOf, frames_of};
 
     ghost Value = { List (List ℕ) };
 
     ghost view = { λ r. frames_of r.bytes r.capture };
 
-    ghost invariant = { λ r. All (IsSpanOf r.bytes) r.capture };
+    ghost invariant = { λ r. All (IsSpanOf r.bytes) r.capture × (length r.bytes < 2 ^ 32) };
 }
 
 impl Records {
@@ -36,12 +40,15 @@ impl Records {
     ghost use Rattle.ix_pcap.specs.Capture.{capture_of};
     ghost use Rattle.ix_conf.specs.Settings.{settings_of};
     ghost use Rattle.ix_playdef.specs.Own.{own_frame};
-    ghost use Rattle.ix_playdef.specs.Replies.{CanBeTold, IsShort, by_opening};
-    ghost use Rattle.ix_report.specs.Fits.{Fits};
+    ghost use Rattle.ix_playdef.specs.Replies.{IsShort};
+    ghost use Rattle.ix_fits.specs.Fits.{Fits};
+    ghost use Rattle.ix_fits.specs.Replies.{reply_file};
+    ghost use Rattle.ix_engine.specs.Courses.{IsWireFor};
     ghost use Rattle.ix_top.specs.Top.{frames_read, Refuses, IsStop};
 
     /// The records of a capture file.
     pub fn parse(alloc: Global, bytes: Bytes) -> Result<Records, Status>
+        requires { length bytes < 2 ^ 32 }
         ensures ok { IfOk result (λ r. frames_read bytes (capture_of bytes) ≡ Ok r) }
         ensures err { IfErr result (λ e. Refuses e (frames_read bytes (capture_of bytes))) }
         ensures stops { IfErr result IsStop }
@@ -60,15 +67,21 @@ impl Records {
         own_of(alloc, self.bytes.as_slice(), &self.capture, mac)
     }
 
-    /// The play of this configuration and this wire list over them, on one core.
-    pub fn play(&self, alloc: Global, conf: &Conf, entries: &[Entry]) -> Result<Report, NoMemory>
-        requires { length entries.now < 2 ^ 32 }
-        ensures fits { IfOk result (λ report. Fits (settings_of conf.now) self.now entries.now by_opening report) }
-        ensures few { IfOk result (λ report. length report.replies < 2 ^ 32) }
-        ensures short { IfOk result (λ report. All IsShort report.replies) }
-        ensures told { IfOk result (λ report. All CanBeTold report.groups) }
+    /// Plays a wire list over them: the report, and the replies in their order.
+    pub fn play<R: Threads + Wait + Sync, G: Gate + Sync>(
+        self,
+        rt: &R,
+        alloc: Global,
+        conf: &Conf,
+        entries: Vec<Entry>,
+        gate: &G,
+    ) -> Result<(Report, Vec<Reply>), NoMemory>
+        requires { IsWireFor (settings_of conf.now) self entries.items }
+        ensures fits { IfOk result (λ told. Fits (settings_of conf.now) self entries.items told.0 (reply_file entries.items told.1.items)) }
+        ensures short { IfOk result (λ told. All IsShort told.1.items) }
     {
-        play(alloc, conf, self.bytes.as_slice(), &self.capture, entries)
+        let Records { bytes, capture } = self;
+        play(rt, alloc, conf, bytes, capture, entries, gate)
     }
 }
 

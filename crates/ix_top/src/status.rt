@@ -2,7 +2,7 @@
 ghost use Rattle.std.specs.Prelude.{◌≡◌, ◌≢◌, ◌++◌, IfOk, string_bytes};
 ghost use Rattle.std.specs.Fmt.{decimal};
 ghost use Rattle.ix_top.specs.Top.{IsStop};
-ghost use Rattle.ix_top.specs.Status.{text_of, conf_text_of, conf_refusal, script_text_of, capture_text_of, unbuilt_text_of, capture_refusal, script_refusal};
+ghost use Rattle.ix_top.specs.Status.{text_of, conf_text_of, conf_refusal, script_text_of, capture_text_of, capture_refusal, script_refusal};
 
 use ix_base::{Bytes, NoMemory};
 use ix_conf::{ConfFault, ConfKey};
@@ -29,8 +29,6 @@ pub enum Status {
     WriteFault,
     /// Memory ran out, and nothing was written (7).
     NoMemory,
-    /// The input is beyond what this program can play yet (9).
-    Unbuilt(Unbuilt),
 }
 
 /// Why a configuration is refused.
@@ -78,13 +76,6 @@ pub enum CaptureRefusal {
     TooBig,
 }
 
-/// What this program can't play yet.
-#[derive(Clone, Copy, Debug, PartialEq, Eq)]
-pub enum Unbuilt {
-    /// A configuration of several cores.
-    Conf,
-}
-
 impl Status {
     ghost use Rattle.ix_top.specs.Status.{number_of};
 
@@ -101,7 +92,6 @@ impl Status {
             Status::ReadFault => 5,
             Status::WriteFault => 6,
             Status::NoMemory => 7,
-            Status::Unbuilt(_) => 9,
         }
     }
 }
@@ -164,7 +154,6 @@ pub fn status_text(alloc: Global, status: &Status) -> Result<Bytes, NoMemory>
         Status::ReadFault => String::from_str(alloc, "ix: read fault")?,
         Status::WriteFault => String::from_str(alloc, "ix: write fault")?,
         Status::NoMemory => String::from_str(alloc, "ix: no memory")?,
-        Status::Unbuilt(unbuilt) => unbuilt_text(alloc, unbuilt)?,
     };
     Ok(Bytes::from_vec(text.into_bytes()))
 }
@@ -211,14 +200,6 @@ fn script_text(alloc: Global, refusal: &ScriptRefusal) -> Result<String, AllocEr
             Ok(text)
         }
         ScriptRefusal::TooBig => String::from_str(alloc, "ix: script: too-big"),
-    }
-}
-
-fn unbuilt_text(alloc: Global, unbuilt: &Unbuilt) -> Result<String, AllocError>
-    ensures { IfOk result (λ text. string_bytes text ≡ unbuilt_text_of unbuilt.now) }
-{
-    match unbuilt {
-        Unbuilt::Conf => String::from_str(alloc, "ix: unbuilt conf"),
     }
 }
 

@@ -4,18 +4,28 @@ ghost use Rattle.ix_base.specs.declared.role.Kind.TheVariants.{Reading, Writing}
 ghost use Rattle.ix_base.specs.Host.{Rose};
 ghost use Rattle.ix_top.specs.Top.{Answers, Tells, Given, AllRead, Played, PlayedFront, WritesNothing, KeepsOthers, play_meaning, IsPlay, IsDoneOrNoMemory};
 
-use crate::inputs::read_inputs;
-use crate::outputs::{deliver, perform};
+use crate::command::{Command, command_of};
+use crate::playing::play;
 use crate::status::Status;
 use ix_base::Host;
+use ix_run::Gate;
 use std::alloc::Global;
 use std::sync::Wait;
+use std::thread::Threads;
 
 /// Does all that the program does. `words` are those after the program's name.
 ///
 /// The inputs are read in the order configuration, capture, script, each with its meaning before the next; both files are made before
-/// the first of the two roles that are written is prepared; the trace is begun when the replies are whole.
-pub fn ix<R: Wait, H: Host>(_rt: &R, alloc: Global, words: &[String], host: &mut H) -> Status
+/// the first of the two roles that are written is prepared; the trace is begun when the replies are whole. The card and each core of the play
+/// make their turns in threads of their own, as far as the gate lets them; the answers of the gate, as the threads' schedule, decide only the
+/// free choices of a play.
+pub fn ix<R: Threads + Wait + Sync, H: Host, G: Gate + Sync>(
+    rt: &R,
+    alloc: Global,
+    words: &[String],
+    host: &mut H,
+    gate: &G,
+) -> Status
     ensures usage { (result ≡ Status.Usage) ↔ (¬ IsPlay words.now) }
     ensures answers { IsPlay words.now → (g : Given) → Tells (H.state host.old) g → Answers result (play_meaning g) }
 
@@ -38,20 +48,8 @@ pub fn ix<R: Wait, H: Host>(_rt: &R, alloc: Global, words: &[String], host: &mut
     ensures read_fault { result ≡ Status.ReadFault → Rose ((H.state host.old).faults Reading) ((H.state host.new).faults Reading) }
     ensures write_fault { result ≡ Status.WriteFault → Rose ((H.state host.old).faults Writing) ((H.state host.new).faults Writing) }
 {
-    match words {
-        [command, conf, script, capture, replies, trace] if command.as_str() == "play" => {
-            let inputs = match read_inputs(alloc, host, conf, script, capture) {
-                Ok(inputs) => inputs,
-                Err(status) => return status,
-            };
-            let Ok(output) = perform(alloc, &inputs) else {
-                return Status::NoMemory;
-            };
-            match deliver(host, replies, trace, &output) {
-                Ok(()) => Status::Done,
-                Err(_) => Status::WriteFault,
-            }
-        }
-        _ => Status::Usage,
+    match command_of(words) {
+        Some(Command::Play(files)) => play(rt, alloc, &files, host, gate),
+        None => Status::Usage,
     }
 }

@@ -1,0 +1,5 @@
+pub mod Few
+pub mod Lines
+pub mod Named
+pub mod Next
+pub mod Runs

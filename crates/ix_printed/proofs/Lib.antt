@@ -1,0 +1,4 @@
+pub mod Names
+pub mod Once
+pub mod Shorts
+pub mod Unprinted
