@@ -5,12 +5,11 @@ ghost use Rattle.ix_pcap.specs.Capture.{IsSpanOf};
 use crate::case::Case;
 use crate::files::Files;
 use ix_base::NoMemory;
+use ix_check::{Verdict, check};
 use ix_conf::{Conf, read_conf};
-use ix_decide::{Point, failing_point};
 use ix_pcap::{Capture, read_capture};
 use ix_playdef::is_own;
 use ix_script::read_script;
-use ix_trace::read_trace;
 use ix_wire::Entry;
 use std::alloc::{AllocError, AllocFailed};
 
@@ -27,7 +26,7 @@ pub enum Fault {
     Capture,
     /// .. no script, ..
     Script,
-    /// .. or no trace.
+    /// .. or a trace that is no text.
     Trace,
     /// The text that is to be changed doesn't stand in the trace.
     Edit,
@@ -71,48 +70,48 @@ fn wire_of(
     read_script(rt.alloc(), script, conf, own.as_slice()).map_err(|_| Fault::Script)
 }
 
-// The first point that fails for a wire list, if one does.
-fn point_for(
+// The verdict for a wire list.
+fn verdict_for(
     rt: &HostRuntime,
     files: &Files,
     conf: &Conf,
     capture: &Capture,
     wire: &[Entry],
-) -> Result<Option<Point>, Fault>
+) -> Result<Verdict, Fault>
     requires { All (IsSpanOf files.now.capture.items) capture.now }
 {
     if MOST < wire.len() {
         return Err(Fault::NoMemory);
     }
-    let report = read_trace(rt.alloc(), files.trace.as_bytes()).map_err(|_| Fault::Trace)?;
     let bytes = files.capture.as_slice();
     let replies = files.replies.as_slice();
-    Ok(failing_point(rt.alloc(), conf, bytes, capture, wire, &report, replies)?)
+    let trace = files.trace.as_bytes();
+    Ok(check(rt.alloc(), conf, bytes, capture, wire, replies, trace)?)
 }
 
 // The same for a capture.
-fn point_with(
+fn verdict_with(
     rt: &HostRuntime,
     files: &Files,
     conf: &Conf,
     capture: &Capture,
-) -> Result<Option<Point>, Fault>
+) -> Result<Verdict, Fault>
     requires { All (IsSpanOf files.now.capture.items) capture.now }
 {
     let script = files.script.as_slice();
     let wire = wire_of(rt, conf, script, files.capture.as_slice(), capture)?;
-    point_for(rt, files, conf, capture, wire.as_slice())
+    verdict_for(rt, files, conf, capture, wire.as_slice())
 }
 
 // The same for a configuration.
-fn point_under(rt: &HostRuntime, files: &Files, conf: &Conf) -> Result<Option<Point>, Fault> {
+fn verdict_under(rt: &HostRuntime, files: &Files, conf: &Conf) -> Result<Verdict, Fault> {
     let capture = read_capture(rt.alloc(), files.capture.as_slice()).map_err(|_| Fault::Capture)?;
-    point_with(rt, files, conf, &capture)
+    verdict_with(rt, files, conf, &capture)
 }
 
-/// The first point of a case that fails, if one does.
-pub fn point_of(rt: &HostRuntime, case: &Case<'_>) -> Result<Option<Point>, Fault> {
+/// The verdict on a case.
+pub fn verdict_of(rt: &HostRuntime, case: &Case<'_>) -> Result<Verdict, Fault> {
     let files = Files::of(rt, case)?;
     let conf = read_conf(rt.alloc(), files.conf.as_slice()).map_err(|_| Fault::Conf)?;
-    point_under(rt, &files, &conf)
+    verdict_under(rt, &files, &conf)
 }

@@ -1,4 +1,4 @@
-//! Plays that were worked out outside this program, and wrong traces of them: of each, the first point of docs/FITS.md that fails.
+//! Plays that were worked out outside this program, and wrong traces of them: of each, what the checker finds (docs/CHECK.md).
 //!
 //! The cases stand on the standard input, one a line:
 //!
@@ -14,9 +14,9 @@ mod answer;
 mod case;
 mod files;
 
-use answer::{Fault, point_of};
+use answer::{Fault, verdict_of};
 use case::Case;
-use ix_decide::Point;
+use ix_check::{Finding, Verdict};
 use std::io;
 
 fn main(rt: HostRuntime) -> io::Result<()> {
@@ -27,24 +27,16 @@ fn main(rt: HostRuntime) -> io::Result<()> {
     Ok(())
 }
 
-// Prints a line, behind the point that fails where it is a case.
+// Prints a line, behind what is found where it is a case.
 fn tell(rt: &HostRuntime, line: &str) -> io::Result<()> {
     if line.starts_with("#") {
         return println!(rt; "{line}");
     }
-    match point_of(rt, &Case::of(line)) {
-        Ok(point) => println!(rt; "{} | {line}", verdict(point)),
+    match verdict_of(rt, &Case::of(line)) {
+        Ok(Verdict::Yes) => println!(rt; "fits | {line}"),
+        Ok(Verdict::No(Finding::Text { line: bad })) => println!(rt; "text {bad} | {line}"),
+        Ok(Verdict::No(Finding::Point { number })) => println!(rt; "point {number} | {line}"),
         Err(fault) => println!(rt; "{} | {line}", unread(fault)),
-    }
-}
-
-fn verdict(point: Option<Point>) -> &'static str {
-    match point {
-        None => "fits",
-        Some(Point::Card) => "point 1",
-        Some(Point::Groups) => "point 2",
-        Some(Point::Connections) => "point 3",
-        Some(Point::Replies) => "point 4",
     }
 }
 
@@ -55,7 +47,7 @@ fn unread(fault: Fault) -> &'static str {
         Fault::Conf => "no configuration",
         Fault::Capture => "no capture",
         Fault::Script => "no script",
-        Fault::Trace => "no trace",
+        Fault::Trace => "no text",
         Fault::Edit => "no such text",
     }
 }
