@@ -1,2 +1,4 @@
 pub mod Status
 pub mod Top
+pub mod Check
+pub mod Words

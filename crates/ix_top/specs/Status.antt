@@ -1,6 +1,8 @@
 -- Numbers and texts of the statuses.
 use Rattle.std.specs.Prelude.{ℕ, List, [], ◌++◌, codes}
 use Rattle.std.specs.Fmt.{decimal}
+use Rattle.ix_check.specs.declared.verdict.Finding.{Finding}
+use Rattle.ix_check.specs.declared.verdict.Finding.TheVariants as findings
 use Rattle.ix_conf.specs.Key.{key_text}
 use Rattle.ix_conf.specs.declared.keys.ConfFault.{ConfFault}
 use Rattle.ix_conf.specs.declared.keys.ConfFault.TheVariants as conf_fault
@@ -10,7 +12,7 @@ use Rattle.ix_wire.specs.Kind.{kind_text}
 use Rattle.ix_wire.specs.declared.fault.ScriptFault.{ScriptFault}
 use Rattle.ix_wire.specs.declared.fault.ScriptFault.TheVariants as script_fault
 use Rattle.ix_top.specs.declared.status.Status.{Status}
-use Rattle.ix_top.specs.declared.status.Status.TheVariants.{Done, Usage, Conf, Script, Capture, ReadFault, WriteFault, NoMemory}
+use Rattle.ix_top.specs.declared.status.Status.TheVariants.{Done, Usage, Conf, Script, Capture, ReadFault, WriteFault, NoMemory, Refused}
 use Rattle.ix_top.specs.declared.status.CaptureRefusal.{CaptureRefusal}
 use Rattle.ix_top.specs.declared.status.ConfRefusal.{ConfRefusal}
 use Rattle.ix_top.specs.declared.status.ConfRefusal.TheVariants as conf
@@ -27,6 +29,7 @@ number_of (Capture refusal) = 4
 number_of ReadFault = 5
 number_of WriteFault = 6
 number_of NoMemory = 7
+number_of (Refused finding) = 8
 
 -- The reader's meaning of a configuration has no want of memory; the case makes this total.
 abbrev pub conf_refusal : ConfFault → Status
@@ -73,12 +76,17 @@ capture_text_of TooManyRecords = codes "ix: capture: too-many-records"
 capture_text_of (CutRecord at) = codes "ix: capture: cut-record " ++ decimal at
 capture_text_of TooBig = codes "ix: capture: too-big"
 
+abbrev pub finding_text_of : Finding → List ℕ
+finding_text_of (findings.Text line) = codes "ix: refused: text " ++ decimal line
+finding_text_of (findings.Point number) = codes "ix: refused: point " ++ decimal number
+
 abbrev pub text_of : Status → List ℕ
 text_of Done = []
-text_of Usage = codes "ix: usage: ix play CONF SCRIPT CAPTURE REPLIES TRACE"
+text_of Usage = codes "ix: usage: ix play CONF SCRIPT CAPTURE REPLIES TRACE | ix check CONF SCRIPT CAPTURE REPLIES TRACE"
 text_of (Conf refusal) = conf_text_of refusal
 text_of (Script refusal) = script_text_of refusal
 text_of (Capture refusal) = capture_text_of refusal
 text_of ReadFault = codes "ix: read fault"
 text_of WriteFault = codes "ix: write fault"
 text_of NoMemory = codes "ix: no memory"
+text_of (Refused finding) = finding_text_of finding

@@ -1,5 +1,5 @@
 -- What the inputs of a play mean, which status may come, and what was written.
-use Rattle.std.specs.Prelude.{◌≡◌, ◌⊎◌, Bool, true, false, ℕ, List, [], ◌∷◌, length, take, map, Result, Ok, Err, IsOk, String, string_bytes, Some, nat_lt, if◌then◌else◌, codes}
+use Rattle.std.specs.Prelude.{◌≡◌, ◌⊎◌, Bool, true, false, ℕ, List, [], length, take, map, Result, Ok, Err, IsOk, Some, nat_lt, if◌then◌else◌}
 use Rattle.std.specs.Io.KnownBytes.{IsAtEnd, append_known}
 use Rattle.ix_base.specs.declared.role.Role.{Role}
 use Rattle.ix_base.specs.declared.role.Role.TheVariants as role
@@ -8,7 +8,7 @@ use Rattle.ix_pcap.specs.declared.records.Span.{Span}
 use Rattle.ix_pcap.specs.declared.records.CaptureFault.{CaptureFault}
 use Rattle.ix_pcap.specs.Capture.{capture_of, frames_of}
 use Rattle.ix_top.specs.declared.status.Status.{Status}
-use Rattle.ix_top.specs.declared.status.Status.TheVariants.{Done, Usage, Conf, Script, Capture, ReadFault, WriteFault, NoMemory}
+use Rattle.ix_top.specs.declared.status.Status.TheVariants.{Done, Usage, Conf, Script, Capture, ReadFault, WriteFault, NoMemory, Refused}
 use Rattle.ix_top.specs.declared.status.ConfRefusal.TheVariants as conf
 use Rattle.ix_top.specs.declared.status.ScriptRefusal.TheVariants as script
 use Rattle.ix_top.specs.declared.status.CaptureRefusal.TheVariants as capture
@@ -102,6 +102,7 @@ Answers (Script f) m = m ≡ Err (Script f)
 Answers Usage m = Unit {0}
 Answers ReadFault m = Unit {0}
 Answers NoMemory m = Unit {0}
+Answers (Refused f) m = ⊥
 
 -- a status that stops the reading, with its cause
 abbrev pub Refuses : {X : Type 0} → Status → Result X Status → Type 0
@@ -113,6 +114,7 @@ Refuses NoMemory m = Unit {0}
 Refuses Usage m = ⊥
 Refuses Done m = ⊥
 Refuses WriteFault m = ⊥
+Refuses (Refused f) m = ⊥
 
 -- a status that a stop of the reading answers
 abbrev pub IsStop : Status → Type 0
@@ -124,6 +126,7 @@ IsStop NoMemory = Unit {0}
 IsStop Usage = ⊥
 IsStop Done = ⊥
 IsStop WriteFault = ⊥
+IsStop (Refused f) = ⊥
 
 -- the work was done, or memory ran out
 abbrev pub IsDoneOrNoMemory : Status → Type 0
@@ -194,8 +197,3 @@ pub record PlayedFront (g : Given) (old new : State) : Type 0 where
   pub meaning : play_meaning g ≡ Ok inputs
   pub files : AreFiles inputs replies trace
   pub writes : AppendsFront old new replies trace
-
--- the words of a play
-abbrev pub IsPlay : {A : Type 0} → List (String A) → Type 0
-IsPlay (command ∷ conf ∷ script ∷ capture ∷ replies ∷ trace ∷ []) = string_bytes command ≡ codes "play"
-IsPlay _ = ⊥

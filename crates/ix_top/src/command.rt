@@ -1,12 +1,13 @@
 // The commands of the program.
-ghost use Rattle.std.specs.Prelude.{◌↔◌, IsSome};
-ghost use Rattle.ix_top.specs.Top.{IsPlay};
+ghost use Rattle.ix_top.specs.Words.{IsAsked};
 
 /// What the words after the program's name ask for.
 #[derive(Clone, Copy)]
 pub enum Command<'a> {
     /// To play a script over a capture.
     Play(PlayFiles<'a>),
+    /// To check the files of a play.
+    Check(PlayFiles<'a>),
 }
 
 /// The names of the files of a play.
@@ -21,18 +22,21 @@ pub struct PlayFiles<'a> {
 
 /// The command that these words are, if they are one.
 pub fn command_of(words: &[String]) -> Option<Command<'_>>
-    ensures { IsSome result ↔ IsPlay words.now }
+    ensures { IsAsked result words.now }
 {
-    match words {
-        [command, conf, script, capture, replies, trace] if command.as_str() == "play" => {
-            Some(Command::Play(PlayFiles {
-                conf: conf.as_str(),
-                script: script.as_str(),
-                capture: capture.as_str(),
-                replies: replies.as_str(),
-                trace: trace.as_str(),
-            }))
-        }
+    let [command, conf, script, capture, replies, trace] = words else {
+        return None;
+    };
+    let files = PlayFiles {
+        conf: conf.as_str(),
+        script: script.as_str(),
+        capture: capture.as_str(),
+        replies: replies.as_str(),
+        trace: trace.as_str(),
+    };
+    match command.as_str() {
+        "play" => Some(Command::Play(files)),
+        "check" => Some(Command::Check(files)),
         _ => None,
     }
 }

@@ -16,6 +16,7 @@ use crate::status::{
     CaptureRefusal, ConfRefusal, ScriptRefusal, Status, conf_status, script_status,
 };
 use ix_base::{Bytes, Host, NoMemory, Role};
+use ix_check::Verdict;
 use ix_conf::{Conf, read_conf};
 use ix_playdef::Reply;
 use ix_run::Gate;
@@ -54,6 +55,8 @@ impl Model for Inputs {
 
 impl Inputs {
     ghost use Rattle.std.specs.Prelude.{◌≡◌, All, IfOk};
+    ghost use Rattle.std.specs.Bool.{Decides};
+    ghost use Rattle.ix_check.specs.Verdict.{Fit, IsVerdict, is_yes};
     ghost use Rattle.ix_playdef.specs.Replies.{IsShort};
     ghost use Rattle.ix_fits.specs.Fits.{Fits};
     ghost use Rattle.ix_fits.specs.Replies.{reply_file};
@@ -81,6 +84,16 @@ impl Inputs {
             entries,
         } = self;
         records.play(rt, alloc, &conf, entries, gate)
+    }
+
+    /// Whether a trace and a file of replies are those of a play of them.
+    pub fn check(&self, alloc: Global, replies: &[u8], trace: &[u8]) -> Result<Verdict, NoMemory>
+        ensures decides { IfOk result (λ verdict. Decides (is_yes verdict) (Fit self.now.settings self.now.frames self.now.entries replies.now trace.now)) }
+        ensures finding { IfOk result (λ verdict. IsVerdict self.now.settings self.now.frames self.now.entries replies.now trace.now verdict) }
+    {
+        let entries = self.entries.as_slice();
+        self.records
+            .check(alloc, &self.conf, entries, replies, trace)
     }
 }
 
@@ -209,7 +222,8 @@ fn parse_entries(
     }
 }
 
-fn stop(error: ReadError) -> Status
+/// The status of a role that wasn't read to its end.
+pub fn stop(error: ReadError) -> Status
     ensures failed { error ≡ ReadError.Failed → result ≡ Status.ReadFault }
     ensures memory { error ≡ ReadError.Memory → result ≡ Status.NoMemory }
 {

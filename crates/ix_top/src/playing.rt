@@ -2,6 +2,7 @@
 ghost use Rattle.std.specs.Prelude.{◌≡◌, ◌≢◌, IsOk};
 ghost use Rattle.ix_base.specs.declared.role.Kind.TheVariants.{Reading, Writing};
 ghost use Rattle.ix_base.specs.Host.{Rose};
+ghost use Rattle.ix_top.specs.Check.{IsRefused};
 ghost use Rattle.ix_top.specs.Top.{Answers, Tells, Given, AllRead, Played, PlayedFront, WritesNothing, KeepsOthers, play_meaning, IsDoneOrNoMemory};
 
 use crate::command::PlayFiles;
@@ -23,6 +24,7 @@ pub fn play<R: Threads + Wait + Sync, H: Host, G: Gate + Sync>(
     gate: &G,
 ) -> Status
     ensures command { result ≢ Status.Usage }
+    ensures plays { ¬ IsRefused result }
     ensures answers { (g : Given) → Tells (H.state host.old) g → Answers result (play_meaning g) }
     ensures read { result ≡ Status.Done → AllRead (H.state host.new) }
     ensures done { result ≡ Status.Done → (g : Given) → Tells (H.state host.old) g → Played g (H.state host.old) (H.state host.new) }

@@ -5,6 +5,7 @@ ghost use Rattle.ix_playdef.specs.Own.{own_frame};
 
 use crate::status::{Status, capture_status};
 use ix_base::{Bytes, NoMemory};
+use ix_check::{Verdict, check};
 use ix_conf::Conf;
 use ix_pcap::{Capture, read_capture};
 use ix_play::play;
@@ -39,11 +40,13 @@ impl Records {
     ghost use Rattle.std.specs.Prelude.{◌≡◌, ◌≢◌, ◌≤◌, ◌<◌, ◌^◌, All, length, map, IfOk, IfErr, Ok, Err};
     ghost use Rattle.ix_pcap.specs.Capture.{capture_of};
     ghost use Rattle.ix_conf.specs.Settings.{settings_of};
+    ghost use Rattle.std.specs.Bool.{Decides};
     ghost use Rattle.ix_playdef.specs.Own.{own_frame};
     ghost use Rattle.ix_playdef.specs.Replies.{IsShort};
     ghost use Rattle.ix_fits.specs.Fits.{Fits};
     ghost use Rattle.ix_fits.specs.Replies.{reply_file};
     ghost use Rattle.ix_engine.specs.Courses.{IsWireFor};
+    ghost use Rattle.ix_check.specs.Verdict.{Fit, IsVerdict, is_yes};
     ghost use Rattle.ix_top.specs.Top.{frames_read, Refuses, IsStop};
 
     /// The records of a capture file.
@@ -82,6 +85,23 @@ impl Records {
     {
         let Records { bytes, capture } = self;
         play(rt, alloc, conf, bytes, capture, entries, gate)
+    }
+
+    /// Whether a trace and a file of replies are those of a play of a wire list over them.
+    pub fn check(
+        &self,
+        alloc: Global,
+        conf: &Conf,
+        entries: &[Entry],
+        replies: &[u8],
+        trace: &[u8],
+    ) -> Result<Verdict, NoMemory>
+        requires { IsWireFor (settings_of conf.now) self.now entries.now }
+        ensures decides { IfOk result (λ verdict. Decides (is_yes verdict) (Fit (settings_of conf.now) self.now entries.now replies.now trace.now)) }
+        ensures finding { IfOk result (λ verdict. IsVerdict (settings_of conf.now) self.now entries.now replies.now trace.now verdict) }
+    {
+        let bytes = self.bytes.as_slice();
+        check(alloc, conf, bytes, &self.capture, entries, replies, trace)
     }
 }
 

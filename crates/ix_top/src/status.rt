@@ -2,9 +2,10 @@
 ghost use Rattle.std.specs.Prelude.{◌≡◌, ◌≢◌, ◌++◌, IfOk, string_bytes};
 ghost use Rattle.std.specs.Fmt.{decimal};
 ghost use Rattle.ix_top.specs.Top.{IsStop};
-ghost use Rattle.ix_top.specs.Status.{text_of, conf_text_of, conf_refusal, script_text_of, capture_text_of, capture_refusal, script_refusal};
+ghost use Rattle.ix_top.specs.Status.{text_of, conf_text_of, conf_refusal, finding_text_of, script_text_of, capture_text_of, capture_refusal, script_refusal};
 
 use ix_base::{Bytes, NoMemory};
+use ix_check::Finding;
 use ix_conf::{ConfFault, ConfKey};
 use ix_pcap::CaptureFault;
 use ix_script::{ScriptFault, ScriptKind};
@@ -29,6 +30,8 @@ pub enum Status {
     WriteFault,
     /// Memory ran out, and nothing was written (7).
     NoMemory,
+    /// The files that were checked are not those of a play (8).
+    Refused(Finding),
 }
 
 /// Why a configuration is refused.
@@ -92,6 +95,7 @@ impl Status {
             Status::ReadFault => 5,
             Status::WriteFault => 6,
             Status::NoMemory => 7,
+            Status::Refused(_) => 8,
         }
     }
 }
@@ -154,11 +158,13 @@ pub fn status_text(alloc: Global, status: &Status) -> Result<Bytes, NoMemory>
         Status::ReadFault => String::from_str(alloc, "ix: read fault")?,
         Status::WriteFault => String::from_str(alloc, "ix: write fault")?,
         Status::NoMemory => String::from_str(alloc, "ix: no memory")?,
+        Status::Refused(finding) => finding_text(alloc, finding)?,
     };
     Ok(Bytes::from_vec(text.into_bytes()))
 }
 
-const USAGE: &str = "ix: usage: ix play CONF SCRIPT CAPTURE REPLIES TRACE";
+const USAGE: &str =
+    "ix: usage: ix play CONF SCRIPT CAPTURE REPLIES TRACE | ix check CONF SCRIPT CAPTURE REPLIES TRACE";
 
 fn conf_text(alloc: Global, refusal: &ConfRefusal) -> Result<String, AllocError>
     ensures { IfOk result (λ text. string_bytes text ≡ conf_text_of refusal.now) }
@@ -200,6 +206,15 @@ fn script_text(alloc: Global, refusal: &ScriptRefusal) -> Result<String, AllocEr
             Ok(text)
         }
         ScriptRefusal::TooBig => String::from_str(alloc, "ix: script: too-big"),
+    }
+}
+
+fn finding_text(alloc: Global, finding: &Finding) -> Result<String, AllocError>
+    ensures { IfOk result (λ text. string_bytes text ≡ finding_text_of finding.now) }
+{
+    match finding {
+        Finding::Text { line } => counted(alloc, "ix: refused: text ", *line as usize),
+        Finding::Point { number } => counted(alloc, "ix: refused: point ", *number as usize),
     }
 }
 

@@ -1,4 +1,5 @@
 // The worked runs of the top call over hosts in memory.
+mod checks;
 mod gates;
 
 use crate::{Status, ix, status_text};
@@ -181,7 +182,7 @@ fn other_words_are_refused(rt: HostRuntime) -> Result<(), Fail> {
     let text = status_text(alloc, &short)?;
     assert_eq!(rt;
         text.as_slice(),
-        b"ix: usage: ix play CONF SCRIPT CAPTURE REPLIES TRACE".as_slice()
+        b"ix: usage: ix play CONF SCRIPT CAPTURE REPLIES TRACE | ix check CONF SCRIPT CAPTURE REPLIES TRACE".as_slice()
     );
     Ok(())
 }
