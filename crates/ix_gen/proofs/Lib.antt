@@ -1,7 +1,9 @@
 pub mod ConfLaws
 pub mod EntryLaws
+pub mod ForeignLaws
 pub mod LineLaws
 pub mod RoundLaws
 pub mod ScriptLaws
 pub mod StreamLaws
+pub mod SummaryLaws
 pub mod TableLaws

@@ -1,6 +1,7 @@
 // The three files of a generated play.
 ghost use Rattle.std.specs.Prelude.{◌≡◌, ◌≤◌, ◌*◌, IfOk, Ok};
 ghost use Rattle.ix_pcap.specs.Written.{capture_bytes, ReadsBack};
+ghost use Rattle.ix_gen.specs.Foreign.{FramesAreForeign};
 ghost use Rattle.ix_gen.specs.Rounds.{frames_of};
 ghost use Rattle.ix_conf.specs.Settings.{conf_of};
 ghost use Rattle.ix_script.specs.Script.{script_of};
@@ -61,4 +62,10 @@ pub fn conf_is_read()
 #[tactic(auto, using(crate::proofs::ScriptLaws::script_read))]
 pub fn script_is_read()
     ensures { ScriptIsRead }
+{}
+
+/// Does nothing: its contract is the law that no frame of a generated play is the server's own, so that each is played.
+#[tactic(auto, using(crate::proofs::ForeignLaws::frames_foreign))]
+pub fn frames_are_foreign()
+    ensures { FramesAreForeign }
 {}
