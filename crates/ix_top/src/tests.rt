@@ -1,6 +1,7 @@
 // The worked runs of the top call over hosts in memory.
 mod checks;
 mod gates;
+mod short;
 
 use crate::{Status, ix, status_text};
 use ix_base::{Bytes, MemHost, NoMemory, Role};
